@@ -1,0 +1,2 @@
+-- What the operations on rows do to each bit of each row.
+-- Assumes nothing.

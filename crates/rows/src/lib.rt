@@ -1,0 +1,1 @@
+// Rows of bits in lent words.
