@@ -1,0 +1,84 @@
+-- The claims of demand 3, each a short definition; the proofs stand in Proved.antt.
+-- Assumes nothing.
+use mathlib.Core.Path.{_≡_}
+use mathlib.Core.Bool.{Bool, true, false}
+use mathlib.Core.Logic.{_⊎_, _↔_}
+use mathlib.Core.List.{List, List·Memᴰ}
+use Prim.Native.Nat.{ℕ, _<_}
+use Rattle.levels.specs.declared.Order.{Order}
+use Rattle.levels.specs.Order.{atOrBelow}
+use Rattle.records.specs.Records.{numbers, field, sound}
+use Rattle.model.specs.declared.Call.{Call}
+use Rattle.model.specs.declared.Call.the-variants.{Start, Mark, Spread}
+use Rattle.model.specs.Verdicts.{granted, isDone, row-state}
+use Rattle.model.specs.State.{Memory, lengthsFit, inUse, task, levelOf, marked, hasFlow}
+use Rattle.model.specs.Spread.{marksSome}
+use Rattle.model.specs.Events.{Outcome}
+use Rattle.model.specs.Monitor.{perform}
+use Rattle.containment.specs.Lists.{Item, Standing, run, Admissible, begun}
+use Rattle.containment.specs.Chains.{Chain}
+
+-- ---- the limits on levels
+
+-- level l is at or below the level of some task marked from outside since the last granted start
+abbrev pub Covered : Standing → ℕ → Type 0
+Covered s l = (t : ℕ) × List·Memᴰ t (s .outside) × (task (s .memory) t ≡ true) × (atOrBelow (s .order) l (levelOf (s .memory) t) ≡ true)
+
+-- demand 3 of the memory that a list leaves
+pub record Contained (s : Standing) : Type 0 where
+  -- every marked thing lies at or below the level of some task marked from outside since
+  pub marks-covered : (x : ℕ) → x < numbers → marked (s .memory) x ≡ true → Covered s (levelOf (s .memory) x)
+  -- every recorded flow joins things in use
+  pub flows-join : (x y : ℕ) → x < numbers → y < numbers → hasFlow (s .memory) x y ≡ true → (inUse (s .memory) x ≡ true) × (inUse (s .memory) y ≡ true)
+  -- and ends at or below its source's level, or such a task's
+  pub flows-end : (x y : ℕ) → x < numbers → y < numbers → hasFlow (s .memory) x y ≡ true
+      → (atOrBelow (s .order) (levelOf (s .memory) y) (levelOf (s .memory) x) ≡ true) ⊎ Covered s (levelOf (s .memory) y)
+
+-- a list begun by a granted start: the memory before it may hold anything
+pub record Reached (o : Order) (m : Memory) (is : List Item) : Type 0 where
+  pub granted-start : perform o m Start .verdict ≡ granted
+  pub admissible : Admissible is (begun o m)
+
+-- demand 3, both limits on levels: one claim about the list as a whole
+abbrev pub Containment : Type 0
+Containment = (o : Order) (m : Memory) (is : List Item) → Reached o m is → Contained (run is (begun o m))
+
+-- ---- what a list leaves is settled by its calls alone
+
+abbrev pub Determined : Type 0
+Determined = (o : Order) (m n : Memory) (is : List Item) → perform o m Start .verdict ≡ granted → perform o n Start .verdict ≡ granted
+    → run is (begun o m) ≡ run is (begun o n)
+
+-- ---- every granted spread, on any state, marks exactly what chains reach
+
+pub record Exact (m n : Memory) : Type 0 where
+  -- marked after it: what a chain reaches, and the chains begin with what was marked before
+  pub by-chains : (x : ℕ) → x < numbers → (marked n x ≡ true) ↔ Chain m x
+  -- nothing changes but marks
+  pub words-kept : n .words ≡ m .words
+  pub bytes-kept : (x f : ℕ) → x < numbers → f < 8 → (f ≡ 5 → ⊥) → field (n .bytes) x f ≡ field (m .bytes) x f
+  -- a mark that was there stays as it was
+  pub marks-kept : (x : ℕ) → x < numbers → marked m x ≡ true → field (n .bytes) x 5 ≡ field (m .bytes) x 5
+  -- and one more round would mark nothing
+  pub at-rest : marksSome n ≡ false
+
+abbrev pub SpreadExact : Type 0
+SpreadExact = (o : Order) (m : Memory) → perform o m Spread .verdict ≡ granted → Exact m (perform o m Spread .memory)
+
+-- ---- a repeated mark changes only the tally
+
+abbrev pub RepeatedMark : Type 0
+RepeatedMark = (o : Order) (m : Memory) (is : List Item) → Reached o m is → (e : ℕ) → List·Memᴰ e (run is (begun o m) .outside)
+    → perform (run is (begun o m) .order) (run is (begun o m) .memory) (Mark e) ≡ record { verdict = granted; rounds = 0; memory = run is (begun o m) .memory }
+
+-- ---- soundness is kept
+
+-- on any memory, reached or not
+abbrev pub LeavesSound : Type 0
+LeavesSound = (o : Order) (m : Memory) (c : Call) → isDone (perform o m c .verdict) ≡ true
+    → (lengthsFit (perform o m c .memory) ≡ true) × (sound o (perform o m c .memory .bytes) ≡ true)
+
+-- so no call of a list is refused with 2 under the last granted start's order
+abbrev pub NeverUnsound : Type 0
+NeverUnsound = (o : Order) (m : Memory) (is : List Item) → Reached o m is
+    → (c : Call) → perform (run is (begun o m) .order) (run is (begun o m) .memory) c .verdict ≡ row-state → ⊥

@@ -1,0 +1,79 @@
+-- Lists of calls: what a list leaves, and which lists demand 3 speaks of.
+-- Assumes nothing.
+use mathlib.Core.Path.{_≡_}
+use mathlib.Core.Bool.{Bool, true, cond}
+use mathlib.Core.Logic.{_⊎_}
+use mathlib.Core.List.{List, [], _∷_}
+use Prim.Native.Nat.{ℕ}
+use Rattle.levels.specs.declared.Order.{Order}
+use Rattle.model.specs.declared.Call.{Call}
+use Rattle.model.specs.declared.Call.the-variants.{Start, Read, Write, Execute, Create, CreateRoot, Move, Delete, CallTask, Invoke, Pass, Post, Find, Mark, Step, Spread}
+use Rattle.model.specs.Verdicts.{isDone}
+use Rattle.model.specs.State.{Memory}
+use Rattle.model.specs.Monitor.{perform}
+
+-- a call, or a report, with the order that it is lent
+pub data Item : Type 0 where
+  asks : Order → Call → Item
+  reports : Order → Item
+
+-- where a list stands: the order of the last granted start, the memory left, and the tasks that a granted mark has named since that start
+pub record Standing : Type 0 where
+  pub order : Order
+  pub memory : Memory
+  pub outside : List ℕ
+
+-- what a call means for that, if it is granted
+pub data Role : Type 0 where
+  starting : Role
+  marking : ℕ → Role
+  other : Role
+
+abbrev pub role : Call → Role
+role Start = starting
+role (Read e d x) = other
+role (Write e d x) = other
+role (Execute c i n l r) = other
+role (Create c d n k l) = other
+role (CreateRoot c d n l) = other
+role (Move e d x f t) = other
+role (Delete e d x k) = other
+role (CallTask a b) = other
+role (Invoke a b) = other
+role (Pass z x y) = other
+role (Post x z y) = other
+role (Find x z y) = other
+role (Mark e) = marking e
+role (Step x) = other
+role Spread = other
+
+-- after a call of that role that was granted or slipped
+unfoldable pub entered : Role → Order → Memory → Standing → Standing
+entered starting o m s = record { order = o; memory = m; outside = [] }
+entered (marking e) o m s = record { order = s .order; memory = m; outside = e ∷ s .outside }
+entered other o m s = record { order = s .order; memory = m; outside = s .outside }
+
+-- a refused call, and a report, leave all as it was
+unfoldable pub next : Item → Standing → Standing
+next (asks o c) s =
+    cond (isDone (perform o (s .memory) c .verdict))
+    (entered (role c) o (perform o (s .memory) c .memory) s)
+    (record { order = s .order; memory = perform o (s .memory) c .memory; outside = s .outside })
+next (reports o) s = s
+
+unfoldable pub run : List Item → Standing → Standing
+run [] s = s
+run (i ∷ is) s = run is (next i s)
+
+-- a call granted or slipped, but for a start, has the last granted start's order; a refused one may have any, and so may a report
+abbrev pub Admitted : Item → Standing → Type 0
+Admitted (asks o c) s = (role c ≡ starting) ⊎ (isDone (perform o (s .memory) c .verdict) ≡ true → o ≡ s .order)
+Admitted (reports o) s = Unit {0}
+
+abbrev pub Admissible : List Item → Standing → Type 0
+Admissible [] s = Unit {0}
+Admissible (i ∷ is) s = Admitted i s × Admissible is (next i s)
+
+-- where a list stands after the start that begins it, whatever the memory held
+unfoldable pub begun : Order → Memory → Standing
+begun o m = record { order = o; memory = perform o m Start .memory; outside = [] }

@@ -1,0 +1,1 @@
+// The statements of what the calls keep, and their proofs. No code.

@@ -1,0 +1,68 @@
+-- What an event does to the memory: a list of effects, done one after the other.
+-- Assumes nothing.
+use mathlib.Core.Bool.{Bool, true, false, cond, not, _&&_, _||_}
+use mathlib.Core.List.{List, [], _∷_}
+use Prim.Native.Nat.{ℕ}
+use lib.Dec.{eqb}
+use Rattle.bits.specs.All.{upTo, one}
+use Rattle.rows.specs.Rows.{addCell, clearThing}
+use Rattle.records.specs.Records.{numbers, rootSign, setField, setRecord}
+use Rattle.model.specs.State.{Memory, rowSize, tables, flowRow, readRow, writeRow, task, object, driverOf, marked}
+
+pub data Effect : Type 0 where
+  -- a flow from .. to .. is recorded; with a condition, where it holds
+  flow : ℕ → ℕ → Effect
+  flow-if : Bool → ℕ → ℕ → Effect
+  -- an access of the task .. to the object .. is recorded
+  read-access : ℕ → ℕ → Effect
+  write-access : ℕ → ℕ → Effect
+  -- a free number becomes a task: number, level, read level
+  make-task : ℕ → ℕ → ℕ → Effect
+  -- a free number becomes an object: number, level, driver, container byte, whether it is marked
+  make-object : ℕ → ℕ → ℕ → ℕ → Bool → Effect
+  -- the object .. is put into the container ..
+  move-to : ℕ → ℕ → Effect
+  -- the record, and in flows and both kinds of access the row and the column, are cleared
+  clear : ℕ → Effect
+  -- the task .. is marked from outside, and its objects are marked
+  mark-outside : ℕ → Effect
+  -- the thing .. is marked and, for a task, its objects
+  mark-thing : ℕ → Effect
+
+-- ---- marking
+
+abbrev pub withBytes : Memory → List ℕ → Memory
+withBytes m bs = record { bytes = bs; words = m .words }
+
+abbrev pub withWords : Memory → List ℕ → Memory
+withWords m ws = record { bytes = m .bytes; words = ws }
+
+-- x gets the mark 1, unless it is marked already: marks 3 stay 3
+unfoldable pub markOne : ℕ → Memory → Memory
+markOne x m = cond (marked m x) m (withBytes m (setField (m .bytes) x 5 1))
+
+-- each number that passes gets a mark
+unfoldable pub markWhere : (ℕ → Bool) → Memory → Memory
+markWhere p m = upTo (λ x v. cond (p x) (markOne x v) v) numbers m
+
+-- x is an object of the driver d
+unfoldable pub objectOf : Memory → ℕ → ℕ → Bool
+objectOf m d x = object m x && eqb (driverOf m x) d
+
+-- ---- each effect
+
+unfoldable pub effect : Effect → Memory → Memory
+effect (flow x y) m = withWords m (addCell rowSize (m .words) (flowRow x) y)
+effect (flow-if b x y) m = withWords m (cond b (addCell rowSize (m .words) (flowRow x) y) (m .words))
+effect (read-access e x) m = withWords m (addCell rowSize (m .words) (readRow e) x)
+effect (write-access e x) m = withWords m (addCell rowSize (m .words) (writeRow e) x)
+effect (make-task n l r) m = withBytes m (setRecord (m .bytes) n 1 l r 0 0 0)
+effect (make-object n l d c b) m = withBytes m (setRecord (m .bytes) n 2 l 0 d c (one b))
+effect (move-to x c) m = withBytes m (setField (m .bytes) x 4 c)
+effect (clear x) m = record { bytes = setRecord (m .bytes) x 0 0 0 0 0 0; words = clearThing rowSize numbers tables x (m .words) }
+effect (mark-outside e) m = markWhere (objectOf m e) (withBytes m (setField (m .bytes) e 5 3))
+effect (mark-thing x) m = markWhere (λ y. eqb y x || (task m x && objectOf m x y)) m
+
+unfoldable pub effects : List Effect → Memory → Memory
+effects [] m = m
+effects (e ∷ es) m = effects es (effect e m)
