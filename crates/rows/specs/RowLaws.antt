@@ -1,2 +1,234 @@
--- What the operations on rows do to each bit of each row.
+-- What the operations on rows do to each column of each row, for every number n of words a row.
 -- Assumes nothing.
+use mathlib.Core.Path.{_≡_, refl, sym, ap, ap₂, _∙_}
+use mathlib.Core.Logic.{_⊎_, inl, inr, ⊎-elim}
+use mathlib.Core.Bool.{Bool, true, false, not, _&&_, _||_, cond}
+use mathlib.Core.List.{List}
+use Prim.Native.Nat.{ℕ, zero, suc, _+_, _-_, _*_, _/_, _%_, _^_, _≤_, _<_}
+use native.Mathlib.Nat.{le-refl, le-suc, le-trans, mul-le-mul-left}
+use native.Mathlib.Omega.{arith}
+use lib.Arith.{digits-div, digits-mod}
+use lib.Bits.{bitAnd, bitOr, and-zero-l}
+use lib.Dec.{eqb, ltb}
+use lib.ListN.{length, getD, set, length-set, replicate, List·getD-eq-default}
+use lib.Pow.{pow-lt}
+use lib.Seq.{getD-set-same, getD-set-other, set-out}
+use borrow.Author.Tests.{eqb-true, eqb-false, eq-eqb, ltb-true, ltb-false, lt-ltb}
+use Rattle.bits.specs.Bit.{bit}
+use Rattle.bits.specs.BitLaws.{bit-and, bit-or, bit-pow, bit-not, bit-zero}
+use Rattle.bits.specs.All.{anyB, upTo}
+use Rattle.bits.specs.AllLaws.{either, both-ways, and-l, and-r, and-i, and-true, or-false, any-i, any-at}
+use Rattle.bits.specs.LoopLaws.{up-keeps}
+use Rattle.rows.specs.Rows.{place, cell, addCell, cutCell, clearRow, clearColumn, clearThing}
+
+-- ---- a store
+
+-- the word at q after a change f of the word at p. A change that leaves 0 as it is may also fall past the end
+getD-change : (f : ℕ → ℕ) (ws : List ℕ) (p q : ℕ) → (p < length ws) ⊎ (f 0 ≡ 0) → getD (set ws p (f (getD ws p 0))) q 0 ≡ cond (eqb q p) (f (getD ws q 0)) (getD ws q 0)
+getD-change f ws p q h = ⊎-elim hit miss (either (eqb q p))
+  where
+    here : (p < length ws) ⊎ (f 0 ≡ 0) → (ltb p (length ws) ≡ true) ⊎ (ltb p (length ws) ≡ false) → getD (set ws p (f (getD ws p 0))) p 0 ≡ f (getD ws p 0)
+    here (inl l) b = getD-set-same ws p _ 0 l
+    here (inr z) (inl b) = getD-set-same ws p _ 0 (ltb-true _ _ b)
+    here (inr z) (inr b) =
+        let e : getD ws p 0 ≡ 0 = List·getD-eq-default ws 0 (ltb-false _ _ b) in
+        ap (λ (l : List ℕ). getD l p 0) (set-out ws p _ (ltb-false _ _ b)) ∙ e ∙ sym z ∙ ap f (sym e)
+
+    hit : eqb q p ≡ true → getD (set ws p (f (getD ws p 0))) q 0 ≡ cond (eqb q p) (f (getD ws q 0)) (getD ws q 0)
+    hit e = rw (e, eqb-true q p e) (here h (either (ltb p (length ws))))
+
+    miss : eqb q p ≡ false → getD (set ws p (f (getD ws p 0))) q 0 ≡ cond (eqb q p) (f (getD ws q 0)) (getD ws q 0)
+    miss e = rw e (getD-set-other ws p q _ 0 (eqb-false q p e))
+
+pub getD-set : (ws : List ℕ) (p q v : ℕ) → p < length ws → getD (set ws p v) q 0 ≡ cond (eqb q p) v (getD ws q 0)
+getD-set ws p q v h = getD-change (λ w. v) ws p q (inl h)
+
+cell-change : (n : ℕ) (f : ℕ → ℕ) (ws : List ℕ) (p x y : ℕ) → (p < length ws) ⊎ (f 0 ≡ 0)
+    → cell n (set ws p (f (getD ws p 0))) x y ≡ cond (eqb (place n x y) p) (bit (f (getD ws (place n x y) 0)) (y % 64)) (cell n ws x y)
+unfolding cell
+cell-change n f ws p x y h = ap (λ (w : ℕ). bit w (y % 64)) (getD-change f ws p (place n x y) h) ∙ go (eqb (place n x y) p)
+  where
+    go : (b : Bool) → bit (cond b (f (getD ws (place n x y) 0)) (getD ws (place n x y) 0)) (y % 64) ≡ cond b (bit (f (getD ws (place n x y) 0)) (y % 64)) (bit (getD ws (place n x y) 0) (y % 64))
+    go true = refl
+    go false = refl
+
+-- a column after a store of any word
+pub cell-set : (n : ℕ) (ws : List ℕ) (p v x y : ℕ) → p < length ws → cell n (set ws p v) x y ≡ cond (eqb (place n x y) p) (bit v (y % 64)) (cell n ws x y)
+cell-set n ws p v x y h = cell-change n (λ w. v) ws p x y (inl h)
+
+-- ---- no two columns of rows of n words stand at one place
+
+same-place : (n : ℕ) {x q x′ q′ : ℕ} → q < n → q′ < n → n * x′ + q′ ≡ n * x + q → (x′ ≡ x) × (q′ ≡ q)
+same-place n {x} {q} {x′} {q′} h h′ e =
+    let p : x′ * n + q′ ≡ x * n + q = omega arith in
+    (sym (digits-div x′ h′) ∙ ap (λ (k : ℕ). k / n) p ∙ digits-div x h, sym (digits-mod x′ h′) ∙ ap (λ (k : ℕ). k % n) p ∙ digits-mod x h)
+
+same-cell : (n x y x′ y′ : ℕ) → y < 64 * n → y′ < 64 * n → (eqb (place n x′ y′) (place n x y) && eqb (y′ % 64) (y % 64)) ≡ (eqb x′ x && eqb y′ y)
+same-cell n x y x′ y′ h h′ = both-ways _ _ there back
+  where
+    there : (eqb (place n x′ y′) (place n x y) && eqb (y′ % 64) (y % 64)) ≡ true → (eqb x′ x && eqb y′ y) ≡ true
+    there e =
+        let d = same-place n {x = x} {q = y / 64} {x′ = x′} {q′ = y′ / 64} (omega arith) (omega arith) (eqb-true _ _ (and-l (eqb (place n x′ y′) (place n x y)) _ e)) in
+        let m : y′ % 64 ≡ y % 64 = eqb-true _ _ (and-r (eqb (place n x′ y′) (place n x y)) _ e) in
+        and-i (eq-eqb x′ x (d .0)) (eq-eqb y′ y (omega arith))
+
+    back : (eqb x′ x && eqb y′ y) ≡ true → (eqb (place n x′ y′) (place n x y) && eqb (y′ % 64) (y % 64)) ≡ true
+    back e =
+        let d : x′ ≡ x = eqb-true _ _ (and-l (eqb x′ x) (eqb y′ y) e) in
+        let f : y′ ≡ y = eqb-true _ _ (and-r (eqb x′ x) (eqb y′ y) e) in
+        and-i (eq-eqb _ _ (ap₂ (place n) d f)) (eq-eqb _ _ (ap (λ (v : ℕ). v % 64) f))
+
+-- ---- one column of one row
+
+cond-or : (e h q : Bool) → cond e (h || q) h ≡ (h || (e && q))
+cond-or true h q = refl
+cond-or false h q = sym (or-false h)
+
+cond-cut : (e h q : Bool) → cond e (h && not q) h ≡ (h && not (e && q))
+cond-cut true h q = refl
+cond-cut false h q = sym (and-true h)
+
+low : (y : ℕ) → y % 64 < 64
+low y = omega arith
+
+pub cell-add : (n : ℕ) (ws : List ℕ) (x y x′ y′ : ℕ) → place n x y < length ws → y < 64 * n → y′ < 64 * n
+    → cell n (addCell n ws x y) x′ y′ ≡ (cell n ws x′ y′ || (eqb x′ x && eqb y′ y))
+unfolding cell addCell
+cell-add n ws x y x′ y′ l h h′ =
+    cell-change n (λ w. bitOr w (2 ^ (y % 64))) ws (place n x y) x′ y′ (inl l)
+    ∙ ap (λ (b : Bool). cond (eqb (place n x′ y′) (place n x y)) b (cell n ws x′ y′))
+    (bit-or _ _ _ ∙ ap (λ (b : Bool). cell n ws x′ y′ || b) (bit-pow (y % 64) (y′ % 64)))
+    ∙ cond-or (eqb (place n x′ y′) (place n x y)) (cell n ws x′ y′) (eqb (y′ % 64) (y % 64))
+    ∙ ap (λ (b : Bool). cell n ws x′ y′ || b) (same-cell n x y x′ y′ h h′)
+
+-- a cut past the end changes nothing, and no column there is set
+pub cell-cut : (n : ℕ) (ws : List ℕ) (x y x′ y′ : ℕ) → y < 64 * n → y′ < 64 * n
+    → cell n (cutCell n ws x y) x′ y′ ≡ (cell n ws x′ y′ && not (eqb x′ x && eqb y′ y))
+unfolding cell cutCell
+cell-cut n ws x y x′ y′ h h′ =
+    cell-change n (λ w. bitAnd w ((2 ^ 64 - 1) - 2 ^ (y % 64))) ws (place n x y) x′ y′ (inr (and-zero-l ((2 ^ 64 - 1) - 2 ^ (y % 64))))
+    ∙ ap (λ (b : Bool). cond (eqb (place n x′ y′) (place n x y)) b (cell n ws x′ y′))
+    (bit-and _ _ _ ∙ ap (λ (b : Bool). cell n ws x′ y′ && b)
+    (bit-not 64 (2 ^ (y % 64)) (y′ % 64) (pow-lt (low y)) (low y′) ∙ ap not (bit-pow (y % 64) (y′ % 64))))
+    ∙ cond-cut (eqb (place n x′ y′) (place n x y)) (cell n ws x′ y′) (eqb (y′ % 64) (y % 64))
+    ∙ ap (λ (b : Bool). cell n ws x′ y′ && not b) (same-cell n x y x′ y′ h h′)
+
+-- ---- loops that clear
+
+and-nor : (h a b : Bool) → ((h && not a) && not b) ≡ (h && not (a || b))
+and-nor true true b = refl
+and-nor true false b = refl
+and-nor false a b = refl
+
+-- a loop whose step i clears where p i holds clears where some p i does
+up-clears : {A : Type 0} (f : ℕ → A → A) (has : A → Bool) (p : ℕ → Bool) (n : ℕ) → ((i : ℕ) (s : A) → i < n → has (f i s) ≡ (has s && not (p i)))
+    → (s : A) → has (upTo f n s) ≡ (has s && not (anyB n p))
+unfolding upTo anyB
+up-clears f has p zero h s = sym (and-true (has s))
+up-clears f has p (suc n) h s =
+    h n (upTo f n s) (le-refl (suc n))
+    ∙ ap (λ (b : Bool). b && not (p n)) (up-clears f has p n (λ i t l. h i t (le-trans l (le-suc n))) s)
+    ∙ and-nor (has s) (anyB n p) (p n)
+
+pub cell-row : (n x : ℕ) (ws : List ℕ) (x′ y : ℕ) → y < 64 * n → cell n (clearRow n x ws) x′ y ≡ (cell n ws x′ y && not (eqb x′ x))
+unfolding clearRow
+cell-row n x ws x′ y h =
+    up-clears _ (λ v. cell n v x′ y) word n (λ i v l. cell-change n (λ w. 0) v (n * x + i) x′ y (inr refl) ∙ go (word i) (cell n v x′ y)) ws
+    ∙ ap (λ (b : Bool). cell n ws x′ y && not b) (both-ways (anyB n word) (eqb x′ x) there back)
+  where
+    word : ℕ → Bool
+    word i = eqb (place n x′ y) (n * x + i)
+
+    go : (e b : Bool) → cond e (bit 0 (y % 64)) b ≡ (b && not e)
+    go true true = bit-zero (y % 64)
+    go true false = bit-zero (y % 64)
+    go false b = sym (and-true b)
+
+    there : anyB n word ≡ true → eqb x′ x ≡ true
+    there e =
+        let a = any-at n word e in
+        eq-eqb x′ x (same-place n (a .1) (omega arith) (eqb-true _ _ (a .2)) .0)
+
+    back : eqb x′ x ≡ true → anyB n word ≡ true
+    back e = any-i n word (y / 64) (omega arith) (eq-eqb _ _ (ap (λ (v : ℕ). n * v + y / 64) (eqb-true x′ x e)))
+
+pub cell-column : (n r y : ℕ) (ws : List ℕ) (x′ y′ : ℕ) → y < 64 * n → y′ < 64 * n
+    → cell n (clearColumn n r y ws) x′ y′ ≡ (cell n ws x′ y′ && not (ltb x′ r && eqb y′ y))
+unfolding clearColumn
+cell-column n r y ws x′ y′ h h′ =
+    up-clears _ (λ v. cell n v x′ y′) row r (λ x v l. cell-cut n v x y x′ y′ h h′) ws
+    ∙ ap (λ (b : Bool). cell n ws x′ y′ && not b) (both-ways (anyB r row) (ltb x′ r && eqb y′ y) there back)
+  where
+    row : ℕ → Bool
+    row x = eqb x′ x && eqb y′ y
+
+    there : anyB r row ≡ true → (ltb x′ r && eqb y′ y) ≡ true
+    there e =
+        let a = any-at r row e in
+        let d : x′ ≡ a .0 = eqb-true _ _ (and-l (eqb x′ (a .0)) (eqb y′ y) (a .2)) in
+        and-i (lt-ltb x′ r (rw d (a .1))) (and-r (eqb x′ (a .0)) (eqb y′ y) (a .2))
+
+    back : (ltb x′ r && eqb y′ y) ≡ true → anyB r row ≡ true
+    back e = any-i r row x′ (ltb-true x′ r (and-l (ltb x′ r) (eqb y′ y) e)) (and-i (eq-eqb x′ x′ refl) (and-r (ltb x′ r) (eqb y′ y) e))
+
+-- in each table, row z < r and column y stay, but for row k and column k
+pub cell-clear : (n r t k : ℕ) (ws : List ℕ) (i z y : ℕ) → i < t → z < r → y < 64 * n → k < r → k < 64 * n
+    → cell n (clearThing n r t k ws) (r * i + z) y ≡ (cell n ws (r * i + z) y && not (eqb z k) && not (eqb y k))
+unfolding clearThing
+cell-clear n r t k ws i z y it zr yn kr kn =
+    cell-column n (r * t) k _ (r * i + z) y kn yn
+    ∙ ap₂ (λ (b e : Bool). b && not (e && eqb y k))
+    (up-clears _ (λ v. cell n v (r * i + z) y) table t (λ j v l. cell-row n (r * j + k) v (r * i + z) y yn) ws
+    ∙ ap (λ (b : Bool). cell n ws (r * i + z) y && not b) (both-ways (anyB t table) (eqb z k) there back))
+    (lt-ltb (r * i + z) (r * t) (omega (arith, mul-le-mul-left r it)))
+  where
+    table : ℕ → Bool
+    table j = eqb (r * i + z) (r * j + k)
+
+    there : anyB t table ≡ true → eqb z k ≡ true
+    there e =
+        let a = any-at t table e in
+        eq-eqb z k (same-place r kr zr (eqb-true _ _ (a .2)) .1)
+
+    back : eqb z k ≡ true → anyB t table ≡ true
+    back e = any-i t table i it (eq-eqb _ _ (ap (λ (v : ℕ). r * i + v) (eqb-true z k e)))
+
+-- ---- lengths stay
+
+pub length-add : (n : ℕ) (ws : List ℕ) (x y : ℕ) → length (addCell n ws x y) ≡ length ws
+unfolding addCell
+length-add n ws x y = length-set ws _ _
+
+pub length-cut : (n : ℕ) (ws : List ℕ) (x y : ℕ) → length (cutCell n ws x y) ≡ length ws
+unfolding cutCell
+length-cut n ws x y = length-set ws _ _
+
+up-length : (f : ℕ → List ℕ → List ℕ) (n : ℕ) → ((i : ℕ) (v : List ℕ) → length (f i v) ≡ length v) → (ws : List ℕ) → length (upTo f n ws) ≡ length ws
+up-length f n h ws = up-keeps f (λ v. length v ≡ length ws) n (λ i v l e. h i v ∙ e) ws refl
+
+pub length-row : (n x : ℕ) (ws : List ℕ) → length (clearRow n x ws) ≡ length ws
+unfolding clearRow
+length-row n x ws = up-length _ n (λ i v. length-set v _ 0) ws
+
+pub length-column : (n r y : ℕ) (ws : List ℕ) → length (clearColumn n r y ws) ≡ length ws
+unfolding clearColumn
+length-column n r y ws = up-length _ r (λ x v. length-cut n v x y) ws
+
+pub length-clear : (n r t k : ℕ) (ws : List ℕ) → length (clearThing n r t k ws) ≡ length ws
+unfolding clearThing
+length-clear n r t k ws = length-column n (r * t) k _ ∙ up-length _ t (λ i v. length-row n (r * i + k) v) ws
+
+-- ---- words that hold nothing
+
+pub cell-past : (n : ℕ) (ws : List ℕ) (x y : ℕ) → length ws ≤ place n x y → cell n ws x y ≡ false
+unfolding cell
+cell-past n ws x y h = ap (λ (w : ℕ). bit w (y % 64)) (List·getD-eq-default ws 0 h) ∙ bit-zero (y % 64)
+
+getD-zeros : (m i : ℕ) → _≡_ {A = ℕ} (getD (replicate m 0) i 0) 0
+getD-zeros zero i = refl
+getD-zeros (suc m) zero = refl
+getD-zeros (suc m) (suc i) = getD-zeros m i
+
+pub cell-zeros : (n m x y : ℕ) → cell n (replicate m 0) x y ≡ false
+unfolding cell
+cell-zeros n m x y = ap (λ (w : ℕ). bit w (y % 64)) (getD-zeros m (place n x y)) ∙ bit-zero (y % 64)
