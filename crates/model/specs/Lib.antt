@@ -4,3 +4,4 @@ pub mod Effects
 pub mod Events
 pub mod Spread
 pub mod Monitor
+pub mod MarkLaws

@@ -1,0 +1,162 @@
+-- What marking changes: the mark of each number that passes and was not marked, and nothing else.
+-- Assumes nothing.
+use mathlib.Core.Path.{_≡_, refl, sym, ap, ap₂, _∙_}
+use mathlib.Core.Logic.{_⊎_, inl, inr, ⊎-elim}
+use mathlib.Core.Bool.{Bool, true, false, not, cond, _||_, true≢false}
+use mathlib.Core.List.{List}
+use Prim.Native.Nat.{ℕ, _+_, _*_, _<_}
+use native.Mathlib.Omega.{arith}
+use lib.Dec.{eqb, ltb}
+use lib.ListN.{length, length-set}
+use lib.Seq.{getD-set-same, getD-set-other, set-out}
+use borrow.Author.Tests.{eqb-true, eqb-false, ltb-true, ltb-false}
+use Rattle.bits.specs.AllLaws.{either, or-true}
+use Rattle.bits.specs.LoopLaws.{up-keeps, up-from}
+use Rattle.records.specs.Records.{numbers, recordSize, field, setField, isTask, isObject}
+use Rattle.model.specs.State.{Memory, task, object, inUse, marked, levelOf, readLevelOf, driverOf, containerOf, hasFlow, hasRead, hasWrite}
+use Rattle.model.specs.Effects.{markOne, markWhere}
+
+field-same : (bs : List ℕ) (x f v : ℕ) → recordSize * x + f < length bs → field (setField bs x f v) x f ≡ v
+unfolding field setField
+field-same bs x f v h = getD-set-same bs (recordSize * x + f) v 0 h
+
+field-else : (bs : List ℕ) (x f v x′ f′ : ℕ) → f < 8 → f′ < 8 → (x′ ≡ x → ⊥) ⊎ (f′ ≡ f → ⊥) → field (setField bs x f v) x′ f′ ≡ field bs x′ f′
+unfolding field setField
+field-else bs x f v x′ f′ l l′ (inl n) = getD-set-other bs (8 * x + f) (8 * x′ + f′) v 0 (λ e. n (omega arith))
+field-else bs x f v x′ f′ l l′ (inr n) = getD-set-other bs (8 * x + f) (8 * x′ + f′) v 0 (λ e. n (omega arith))
+
+length-field : (bs : List ℕ) (x f v : ℕ) → length (setField bs x f v) ≡ length bs
+unfolding setField
+length-field bs x f v = length-set bs _ _
+
+-- after the store of a mark, past the end too
+stored : (bs : List ℕ) (y x : ℕ) → (field (setField bs y 5 1) x 5 ≡ 1) ⊎ (field (setField bs y 5 1) x 5 ≡ field bs x 5)
+unfolding field setField
+stored bs y x = go (either (eqb x y)) (either (ltb (8 * y + 5) (length bs)))
+  where
+    go : (eqb x y ≡ true) ⊎ (eqb x y ≡ false) → (ltb (8 * y + 5) (length bs) ≡ true) ⊎ (ltb (8 * y + 5) (length bs) ≡ false)
+        → (field (setField bs y 5 1) x 5 ≡ 1) ⊎ (field (setField bs y 5 1) x 5 ≡ field bs x 5)
+    go (inl e) (inl l) = let f = eqb-true x y e in inl (rw f (getD-set-same bs (8 * y + 5) 1 0 (ltb-true _ _ l)))
+    go (inl e) (inr l) = inr (rw (set-out bs (8 * y + 5) 1 (ltb-false _ _ l)))
+    go (inr e) l = inr (field-else bs y 5 1 x 5 (omega arith) (omega arith) (inl (eqb-false x y e)))
+
+-- ---- one number
+
+-- a property of the memory that the store of a mark keeps, marking keeps
+one-keeps : (P : Memory → Type 0) (x : ℕ) (m : Memory) → P m → (marked m x ≡ false → P (record { bytes = setField (m .bytes) x 5 1; words = m .words })) → P (markOne x m)
+unfolding markOne
+one-keeps P x m p h = ⊎-elim (λ e. rw e p) (λ e. rw e (h e)) (either (marked m x))
+
+-- marked already, or not: a mark is there
+one-new : (x : ℕ) (m : Memory) → x < numbers → length (m .bytes) ≡ 1024 → (marked m x ≡ false) ⊎ (field (m .bytes) x 5 ≡ 1) → field (markOne x m .bytes) x 5 ≡ 1
+unfolding markOne marked
+one-new x m l e (inl n) = rw n (field-same (m .bytes) x 5 1 (omega arith))
+one-new x m l e (inr h) = rw h h
+
+-- ---- each number that passes
+
+module _ (p : ℕ → Bool) (m : Memory) where
+  -- the loop's step
+  at-each : ℕ → Memory → Memory
+  at-each x v = cond (p x) (markOne x v) v
+
+  each-keeps : (P : Memory → Type 0) (x : ℕ) (v : Memory) → P v → (p x ≡ true → marked v x ≡ false → P (record { bytes = setField (v .bytes) x 5 1; words = v .words })) → P (at-each x v)
+  unfolding at-each
+  each-keeps P x v q h = ⊎-elim (λ e. rw e (one-keeps P x v q (h e))) (λ e. rw e q) (either (p x))
+
+  -- what each store of a mark keeps
+  where-keeps : (P : Memory → Type 0) → ((x : ℕ) (v : Memory) → p x ≡ true → marked v x ≡ false → P v → P (record { bytes = setField (v .bytes) x 5 1; words = v .words }))
+      → P m → P (markWhere p m)
+  unfolding markWhere at-each
+  where-keeps P h q = up-keeps at-each P numbers (λ x v l r. each-keeps P x v r (λ e n. h x v e n r)) m q
+
+  pub where-words : markWhere p m .words ≡ m .words
+  where-words = where-keeps (λ v. v .words ≡ m .words) (λ x v e n q. q) refl
+
+  pub where-length : length (markWhere p m .bytes) ≡ length (m .bytes)
+  where-length = where-keeps (λ v. length (v .bytes) ≡ length (m .bytes)) (λ x v e n q. length-field (v .bytes) x 5 1 ∙ q) refl
+
+  pub where-field : (x f : ℕ) → f < 8 → (f ≡ 5 → ⊥) → field (markWhere p m .bytes) x f ≡ field (m .bytes) x f
+  where-field x f l n =
+      where-keeps (λ v. field (v .bytes) x f ≡ field (m .bytes) x f) (λ y v e k q. field-else (v .bytes) y 5 1 x f (omega arith) l (inr n) ∙ q) refl
+
+  -- a mark that was there stays as it was
+  pub where-kept : (x : ℕ) → marked m x ≡ true → field (markWhere p m .bytes) x 5 ≡ field (m .bytes) x 5
+  unfolding marked
+  where-kept x h = where-keeps (λ v. field (v .bytes) x 5 ≡ field (m .bytes) x 5) (λ y v e n q. field-else (v .bytes) y 5 1 x 5 (omega arith) (omega arith) (inl (other y v n q)) ∙ q) refl
+    where
+      other : (y : ℕ) (v : Memory) → marked v y ≡ false → field (v .bytes) x 5 ≡ field (m .bytes) x 5 → x ≡ y → ⊥
+      other y v n q e = true≢false (sym h ∙ ap (λ (k : ℕ). not (eqb k 0)) (sym q) ∙ ap (λ (k : ℕ). not (eqb (field (v .bytes) k 5) 0)) e ∙ n)
+
+  pub where-not : (x : ℕ) → p x ≡ false → field (markWhere p m .bytes) x 5 ≡ field (m .bytes) x 5
+  where-not x h =
+      where-keeps (λ v. field (v .bytes) x 5 ≡ field (m .bytes) x 5)
+      (λ y v e n q. field-else (v .bytes) y 5 1 x 5 (omega arith) (omega arith) (inl (λ d. true≢false (sym e ∙ ap p (sym d) ∙ h))) ∙ q) refl
+
+  pub where-new : (x : ℕ) → x < numbers → length (m .bytes) ≡ 1024 → marked m x ≡ false → p x ≡ true → field (markWhere p m .bytes) x 5 ≡ 1
+  unfolding markWhere at-each marked
+  where-new x l len n h =
+      up-from at-each Before (λ v. field (v .bytes) x 5 ≡ 1) numbers
+      (λ y v k q. each-keeps (λ v. field (v .bytes) x 5 ≡ 1) y v q (λ e u. ⊎-elim (λ s. s) (λ s. s ∙ q) (stored (v .bytes) y x)))
+      (λ y v k q. each-keeps Before y v q (λ e u. (after y v (q .0) (stored (v .bytes) y x), length-field (v .bytes) y 5 1 ∙ q .1)))
+      x l (λ v q. rw h (one-new x v l (q .1) (q .0))) m (inl n, len)
+    where
+      Before : Memory → Type 0
+      Before v = ((marked v x ≡ false) ⊎ (field (v .bytes) x 5 ≡ 1)) × (length (v .bytes) ≡ 1024)
+
+      after : (y : ℕ) (v : Memory) → (marked v x ≡ false) ⊎ (field (v .bytes) x 5 ≡ 1)
+          → (field (setField (v .bytes) y 5 1) x 5 ≡ 1) ⊎ (field (setField (v .bytes) y 5 1) x 5 ≡ field (v .bytes) x 5)
+          → (marked (record { bytes = setField (v .bytes) y 5 1; words = v .words }) x ≡ false) ⊎ (field (setField (v .bytes) y 5 1) x 5 ≡ 1)
+      after y v r (inl s) = inr s
+      after y v (inl r) (inr s) = inl (ap (λ (k : ℕ). not (eqb k 0)) s ∙ r)
+      after y v (inr r) (inr s) = inr (s ∙ r)
+
+  pub marked-where : (x : ℕ) → x < numbers → length (m .bytes) ≡ 1024 → marked (markWhere p m) x ≡ (marked m x || p x)
+  unfolding marked
+  marked-where x l len = go (either (marked m x)) (either (p x))
+    where
+      same : field (markWhere p m .bytes) x 5 ≡ field (m .bytes) x 5 → marked (markWhere p m) x ≡ marked m x
+      same e = ap (λ (k : ℕ). not (eqb k 0)) e
+
+      go : (marked m x ≡ true) ⊎ (marked m x ≡ false) → (p x ≡ true) ⊎ (p x ≡ false) → marked (markWhere p m) x ≡ (marked m x || p x)
+      go (inl h) q = same (where-kept x h) ∙ rw h
+      go (inr n) (inl q) = rw (where-new x l len n q, n, q)
+      go (inr n) (inr q) = same (where-not x q) ∙ rw (n, q)
+
+  -- ---- so what reads no marks sees no change
+
+  pub where-inUse : (x : ℕ) → inUse (markWhere p m) x ≡ inUse m x
+  unfolding inUse
+  where-inUse x = rw (where-field x 0 (omega arith) (omega arith))
+
+  pub where-task : (x : ℕ) → task (markWhere p m) x ≡ task m x
+  unfolding task isTask
+  where-task x = rw (where-field x 0 (omega arith) (omega arith))
+
+  pub where-object : (x : ℕ) → object (markWhere p m) x ≡ object m x
+  unfolding object isObject
+  where-object x = rw (where-field x 0 (omega arith) (omega arith))
+
+  pub where-level : (x : ℕ) → levelOf (markWhere p m) x ≡ levelOf m x
+  where-level x = where-field x 1 (omega arith) (omega arith)
+
+  pub where-readLevel : (x : ℕ) → readLevelOf (markWhere p m) x ≡ readLevelOf m x
+  where-readLevel x = where-field x 2 (omega arith) (omega arith)
+
+  pub where-driver : (x : ℕ) → driverOf (markWhere p m) x ≡ driverOf m x
+  where-driver x = where-field x 3 (omega arith) (omega arith)
+
+  pub where-container : (x : ℕ) → containerOf (markWhere p m) x ≡ containerOf m x
+  where-container x = where-field x 4 (omega arith) (omega arith)
+
+  pub where-flow : (x y : ℕ) → hasFlow (markWhere p m) x y ≡ hasFlow m x y
+  unfolding hasFlow
+  where-flow x y = rw where-words
+
+  pub where-read : (x y : ℕ) → hasRead (markWhere p m) x y ≡ hasRead m x y
+  unfolding hasRead
+  where-read x y = rw where-words
+
+  pub where-write : (x y : ℕ) → hasWrite (markWhere p m) x y ≡ hasWrite m x y
+  unfolding hasWrite
+  where-write x y = rw where-words
