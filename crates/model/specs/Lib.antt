@@ -5,3 +5,5 @@ pub mod Events
 pub mod Spread
 pub mod Monitor
 pub mod MarkLaws
+pub mod Trials
+pub mod TrialsProved
