@@ -7,3 +7,4 @@ pub mod Monitor
 pub mod MarkLaws
 pub mod Trials
 pub mod TrialsProved
+pub mod TableLaws

@@ -1,6 +1,6 @@
 -- What marking changes: the mark of each number that passes and was not marked, and nothing else.
 -- Assumes nothing.
-use mathlib.Core.Path.{_≡_, refl, sym, ap, ap₂, _∙_}
+use mathlib.Core.Path.{_≡_, refl, sym, ap, _∙_}
 use mathlib.Core.Logic.{_⊎_, inl, inr, ⊎-elim}
 use mathlib.Core.Bool.{Bool, true, false, not, cond, _||_, true≢false}
 use mathlib.Core.List.{List}
@@ -10,7 +10,7 @@ use lib.Dec.{eqb, ltb}
 use lib.ListN.{length, length-set}
 use lib.Seq.{getD-set-same, getD-set-other, set-out}
 use borrow.Author.Tests.{eqb-true, eqb-false, ltb-true, ltb-false}
-use Rattle.bits.specs.AllLaws.{either, or-true}
+use Rattle.bits.specs.AllLaws.{either}
 use Rattle.bits.specs.LoopLaws.{up-keeps, up-from}
 use Rattle.records.specs.Records.{numbers, recordSize, field, setField, isTask, isObject}
 use Rattle.model.specs.State.{Memory, task, object, inUse, marked, levelOf, readLevelOf, driverOf, containerOf, hasFlow, hasRead, hasWrite}
