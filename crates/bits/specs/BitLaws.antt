@@ -2,17 +2,24 @@
 -- Assumes nothing.
 use mathlib.Core.Path.{_≡_, refl, sym, ap, ap₂, _∙_, subst}
 use mathlib.Core.Logic.{_⊎_, inl, inr, ⊎-elim}
-use mathlib.Core.Bool.{Bool, true, false, not, _&&_, _||_, false≢true}
+use mathlib.Core.Bool.{Bool, true, false, not, cond, _&&_, _||_, false≢true}
 use Prim.Native.Nat.{ℕ, zero, suc, _+_, _-_, _*_, _/_, _%_, _^_, _≤_, _<_}
-use native.Mathlib.Nat.{le-of-suc-le-suc, not-suc-le-zero, zero-lt-suc, div-add-mod', mod-lt, div-one, pow-suc, lt-of-not-le, mod-eq-of-lt, one-mul}
+use native.Mathlib.Nat.{le-of-suc-le-suc, not-suc-le-zero, zero-lt-suc, div-add-mod', mod-lt, div-one, pow-suc, lt-of-not-le, mod-eq-of-lt, one-mul, eq-or-lt-of-le, le-refl}
 use native.Mathlib.Omega.{arith}
 use native.Mathlib.Numerals.{add-one, one-add}
 use lib.Arith.{lt-one}
-use lib.Bits.{bitAnd, bitOr, and-shr, or-shr, and-mod, or-mod}
+use lib.Bits.{bitAnd, bitOr, and-shr, or-shr, and-mod, or-mod, or-shifted-r, or-zero-r}
 use lib.Count.{trailingZeros, under}
 use lib.Dec.{eqb, eqb·suc-suc, eqb·zero-suc, eqb·suc-zero}
 use lib.Pow.{shr-shr, pow-lt}
-use Rattle.bits.specs.Bit.{bit}
+use borrow.Author.Tests.{eq-eqb, ne-eqb}
+use Rattle.bits.specs.Bit.{bit, wordOf}
+use Rattle.bits.specs.All.{upTo}
+use Rattle.bits.specs.AllLaws.{and-true, and-false, or-false}
+
+and-same : (a : Bool) → (a && a) ≡ (a && true)
+and-same true = refl
+and-same false = refl
 
 -- a lowest digit is 0 or 1
 pub digit : (x : ℕ) → (x % 2 ≡ 0) ⊎ (x % 2 ≡ 1)
@@ -139,6 +146,78 @@ trailing-below (suc k) w (suc i) l = bit-half w i ∙ trailing-below k (w / 2) i
 pub trailing-lt : (k w : ℕ) → w < 2 ^ k → 0 < w → trailingZeros k w < k
 trailing-lt k w h p = bit-below k w (trailingZeros k w) h (trailing-set k w h p)
 
+below : (k w i : ℕ) → w < 2 ^ k → 0 < w → (bit w i && bit (w - 1) i) ≡ (bit w i && not (eqb i (trailingZeros k w)))
+unfolding trailingZeros
+below zero w i h p = absurd (not-suc-le-zero (subst (λ (x : ℕ). 0 < x) (lt-one h) p))
+below (suc k) w i h p = go i (λ j q. below k (w / 2) j (omega arith) q) (digit w)
+  where
+    go : (i : ℕ) → ((j : ℕ) → 0 < w / 2 → (bit (w / 2) j && bit (w / 2 - 1) j) ≡ (bit (w / 2) j && not (eqb j (trailingZeros k (w / 2)))))
+        → (w % 2 ≡ 0) ⊎ (w % 2 ≡ 1) → (bit w i && bit (w - 1) i) ≡ (bit w i && not (eqb i (under (w % 2) (trailingZeros k (w / 2)))))
+    go zero rest (inl e) = rw (bit-low w, e)
+    go zero rest (inr e) = let f : (w - 1) % 2 ≡ 0 = omega arith in rw (bit-low (w - 1), f, e)
+    go (suc i) rest (inl e) =
+        let f : (w - 1) / 2 ≡ w / 2 - 1 = omega arith in
+        rw (e, bit-half w i, bit-half (w - 1) i, f, eqb·suc-suc i (trailingZeros k (w / 2))) (rest i (omega arith))
+    go (suc i) rest (inr e) =
+        let f : (w - 1) / 2 ≡ w / 2 = omega arith in
+        rw (e, bit-half w i, bit-half (w - 1) i, f, eqb·suc-zero i) (and-same (bit (w / 2) i))
+
+-- `w & (w - 1)` has not the lowest one, and every other
+pub bit-rest : (k w i : ℕ) → w < 2 ^ k → 0 < w → bit (bitAnd w (w - 1)) i ≡ (bit w i && not (eqb i (trailingZeros k w)))
+bit-rest k w i h p = bit-and w (w - 1) i ∙ below k w i h p
+
 -- `1 << i` at a width k
 pub one-shl : (k i : ℕ) → i < k → (1 * 2 ^ i) % 2 ^ k ≡ 2 ^ i
 one-shl k i h = ap (λ (x : ℕ). x % 2 ^ k) (one-mul (2 ^ i)) ∙ mod-eq-of-lt (pow-lt h)
+
+-- ---- a word made of tests
+
+-- its k lowest digits
+unfoldable pub lowWord : (ℕ → Bool) → ℕ → ℕ
+lowWord p k = upTo (λ i w. cond (p i) (w + 2 ^ i) w) k 0
+
+pub low-lt : (p : ℕ → Bool) (k : ℕ) → lowWord p k < 2 ^ k
+unfolding lowWord upTo
+low-lt p zero = omega arith
+low-lt p (suc k) = go (p k) (low-lt p k)
+  where
+    go : (b : Bool) → lowWord p k < 2 ^ k → cond b (lowWord p k + 2 ^ k) (lowWord p k) < 2 ^ suc k
+    go true h = omega arith
+    go false h = omega arith
+
+-- one more digit, set as a machine sets it
+pub low-more : (p : ℕ → Bool) (k : ℕ) → bitOr (lowWord p k) (cond (p k) (2 ^ k) 0) ≡ lowWord p (suc k)
+unfolding lowWord upTo
+low-more p k = go (p k)
+  where
+    go : (b : Bool) → bitOr (lowWord p k) (cond b (2 ^ k) 0) ≡ cond b (lowWord p k + 2 ^ k) (lowWord p k)
+    go true = ap (bitOr (lowWord p k)) (sym (one-mul (2 ^ k))) ∙ or-shifted-r 1 k (lowWord p k) (low-lt p k) ∙ omega arith
+    go false = or-zero-r (lowWord p k)
+
+pub bit-lowWord : (p : ℕ → Bool) (k i : ℕ) → i < k → bit (lowWord p k) i ≡ p i
+bit-lowWord p zero i l = absurd (not-suc-le-zero l)
+bit-lowWord p (suc k) i l =
+    ap (λ (w : ℕ). bit w i) (sym (low-more p k)) ∙ bit-or _ _ i ∙ ap (λ (b : Bool). bit (lowWord p k) i || b) (one-bit (p k))
+    ∙ ⊎-elim last (λ h. earlier h (bit-lowWord p k i h)) (eq-or-lt-of-le (le-of-suc-le-suc l))
+  where
+    one-bit : (b : Bool) → bit (cond b (2 ^ k) 0) i ≡ (b && eqb i k)
+    one-bit true = bit-pow k i
+    one-bit false = bit-zero i
+
+    last : i ≡ k → (bit (lowWord p k) i || (p k && eqb i k)) ≡ p i
+    last e = rw (e, bit-past k (lowWord p k) k (low-lt p k) (le-refl k), eq-eqb k k refl) (and-true (p k))
+
+    earlier : i < k → bit (lowWord p k) i ≡ p i → (bit (lowWord p k) i || (p k && eqb i k)) ≡ p i
+    earlier h e = rw (e, ne-eqb i k (λ e. omega arith), and-false (p k)) (or-false (p i))
+
+pub word-lt : (p : ℕ → Bool) → wordOf p < 2 ^ 64
+unfolding wordOf lowWord
+word-lt p = low-lt p 64
+
+pub bit-word : (p : ℕ → Bool) (i : ℕ) → i < 64 → bit (wordOf p) i ≡ p i
+unfolding wordOf lowWord
+bit-word p i l = bit-lowWord p 64 i l
+
+-- a word is that of its bits
+pub word-is : (p : ℕ → Bool) (w : ℕ) → w < 2 ^ 64 → ((i : ℕ) → i < 64 → bit w i ≡ p i) → w ≡ wordOf p
+word-is p w h e = bit-ext 64 w (wordOf p) h (word-lt p) (λ i l. e i l ∙ sym (bit-word p i l))
