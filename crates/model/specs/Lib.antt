@@ -5,6 +5,7 @@ pub mod Events
 pub mod Spread
 pub mod Monitor
 pub mod MarkLaws
+pub mod SpreadLaws
 pub mod Trials
 pub mod TrialsProved
 pub mod TableLaws

@@ -40,6 +40,68 @@ stored bs y x = go (either (eqb x y)) (either (ltb (8 * y + 5) (length bs)))
     go (inl e) (inr l) = inr (rw (set-out bs (8 * y + 5) 1 (ltb-false _ _ l)))
     go (inr e) l = inr (field-else bs y 5 1 x 5 (omega arith) (omega arith) (inl (eqb-false x y e)))
 
+-- ---- n is m with more marks: nothing changes but marks, and a mark that was there stays as it was
+
+pub record MoreMarks (m n : Memory) : Type 0 where
+  pub words-kept : n .words ≡ m .words
+  pub length-kept : length (n .bytes) ≡ length (m .bytes)
+  pub bytes-kept : (x f : ℕ) → f < 8 → (f ≡ 5 → ⊥) → field (n .bytes) x f ≡ field (m .bytes) x f
+  pub marks-kept : (x : ℕ) → marked m x ≡ true → field (n .bytes) x 5 ≡ field (m .bytes) x 5
+
+module _ {m n : Memory} (g : MoreMarks m n) where
+  pub kept-marked : (x : ℕ) → marked m x ≡ true → marked n x ≡ true
+  unfolding marked
+  kept-marked x e = rw (g .marks-kept x e) e
+
+  -- what reads no marks sees no change
+  pub kept-inUse : (x : ℕ) → inUse n x ≡ inUse m x
+  unfolding inUse
+  kept-inUse x = rw (g .bytes-kept x 0 (omega arith) (omega arith))
+
+  pub kept-task : (x : ℕ) → task n x ≡ task m x
+  unfolding task isTask
+  kept-task x = rw (g .bytes-kept x 0 (omega arith) (omega arith))
+
+  pub kept-object : (x : ℕ) → object n x ≡ object m x
+  unfolding object isObject
+  kept-object x = rw (g .bytes-kept x 0 (omega arith) (omega arith))
+
+  pub kept-level : (x : ℕ) → levelOf n x ≡ levelOf m x
+  kept-level x = g .bytes-kept x 1 (omega arith) (omega arith)
+
+  pub kept-readLevel : (x : ℕ) → readLevelOf n x ≡ readLevelOf m x
+  kept-readLevel x = g .bytes-kept x 2 (omega arith) (omega arith)
+
+  pub kept-driver : (x : ℕ) → driverOf n x ≡ driverOf m x
+  kept-driver x = g .bytes-kept x 3 (omega arith) (omega arith)
+
+  pub kept-container : (x : ℕ) → containerOf n x ≡ containerOf m x
+  kept-container x = g .bytes-kept x 4 (omega arith) (omega arith)
+
+  pub kept-flow : (x y : ℕ) → hasFlow n x y ≡ hasFlow m x y
+  unfolding hasFlow
+  kept-flow x y = rw (g .words-kept)
+
+  pub kept-read : (x y : ℕ) → hasRead n x y ≡ hasRead m x y
+  unfolding hasRead
+  kept-read x y = rw (g .words-kept)
+
+  pub kept-write : (x y : ℕ) → hasWrite n x y ≡ hasWrite m x y
+  unfolding hasWrite
+  kept-write x y = rw (g .words-kept)
+
+  pub more-then : {v : Memory} → MoreMarks n v → MoreMarks m v
+  more-then h =
+      record {
+        words-kept = h .words-kept ∙ g .words-kept;
+        length-kept = h .length-kept ∙ g .length-kept;
+        bytes-kept = λ x f l e. h .bytes-kept x f l e ∙ g .bytes-kept x f l e;
+        marks-kept = λ x e. h .marks-kept x (kept-marked x e) ∙ g .marks-kept x e;
+      }
+
+pub more-none : (m : Memory) → MoreMarks m m
+more-none m = record { words-kept = refl; length-kept = refl; bytes-kept = λ x f l h. refl; marks-kept = λ x e. refl }
+
 -- ---- one number
 
 -- a property of the memory that the store of a mark keeps, marking keeps
@@ -123,40 +185,35 @@ module _ (p : ℕ → Bool) (m : Memory) where
       go (inr n) (inl q) = rw (where-new x l len n q, n, q)
       go (inr n) (inr q) = same (where-not x q) ∙ rw (n, q)
 
-  -- ---- so what reads no marks sees no change
+  pub where-more : MoreMarks m (markWhere p m)
+  where-more = record { words-kept = where-words; length-kept = where-length; bytes-kept = where-field; marks-kept = where-kept }
 
   pub where-inUse : (x : ℕ) → inUse (markWhere p m) x ≡ inUse m x
-  unfolding inUse
-  where-inUse x = rw (where-field x 0 (omega arith) (omega arith))
+  where-inUse = kept-inUse where-more
 
   pub where-task : (x : ℕ) → task (markWhere p m) x ≡ task m x
-  unfolding task isTask
-  where-task x = rw (where-field x 0 (omega arith) (omega arith))
+  where-task = kept-task where-more
 
   pub where-object : (x : ℕ) → object (markWhere p m) x ≡ object m x
-  unfolding object isObject
-  where-object x = rw (where-field x 0 (omega arith) (omega arith))
+  where-object = kept-object where-more
 
   pub where-level : (x : ℕ) → levelOf (markWhere p m) x ≡ levelOf m x
-  where-level x = where-field x 1 (omega arith) (omega arith)
+  where-level = kept-level where-more
 
   pub where-readLevel : (x : ℕ) → readLevelOf (markWhere p m) x ≡ readLevelOf m x
-  where-readLevel x = where-field x 2 (omega arith) (omega arith)
+  where-readLevel = kept-readLevel where-more
 
   pub where-driver : (x : ℕ) → driverOf (markWhere p m) x ≡ driverOf m x
-  where-driver x = where-field x 3 (omega arith) (omega arith)
+  where-driver = kept-driver where-more
 
   pub where-container : (x : ℕ) → containerOf (markWhere p m) x ≡ containerOf m x
-  where-container x = where-field x 4 (omega arith) (omega arith)
+  where-container = kept-container where-more
 
   pub where-flow : (x y : ℕ) → hasFlow (markWhere p m) x y ≡ hasFlow m x y
-  unfolding hasFlow
-  where-flow x y = rw where-words
+  where-flow = kept-flow where-more
 
   pub where-read : (x y : ℕ) → hasRead (markWhere p m) x y ≡ hasRead m x y
-  unfolding hasRead
-  where-read x y = rw where-words
+  where-read = kept-read where-more
 
   pub where-write : (x y : ℕ) → hasWrite (markWhere p m) x y ≡ hasWrite m x y
-  unfolding hasWrite
-  where-write x y = rw where-words
+  where-write = kept-write where-more
