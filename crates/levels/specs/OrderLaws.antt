@@ -1,14 +1,14 @@
 -- What a passed order gives its users: a partial order on the levels below the count, with a top.
 -- Assumes nothing.
 use mathlib.Core.Path.{_≡_}
-use mathlib.Core.Bool.{Bool, true, false, _&&_, and-eq-true-iff}
+use mathlib.Core.Bool.{true, _&&_, and-eq-true-iff}
 use Prim.Native.Nat.{ℕ, _≤_, _<_}
-use lib.Dec.{ltb, eqb}
-use borrow.Author.Tests.{ltb-true, lt-ltb, leb-true, eqb-true}
+use lib.Dec.{eqb}
+use borrow.Author.Tests.{ltb-true, leb-true, eqb-true}
 use Rattle.bits.specs.All.{allB, _⇒_}
 use Rattle.bits.specs.AllLaws.{all-at, implies, and-i}
 use Rattle.levels.specs.declared.Order.{Order}
-use Rattle.levels.specs.Order.{mostLevels, inOrder, atOrBelow, countFits, reflexive, transitive, antisymmetric, belowTop, orderPasses}
+use Rattle.levels.specs.Order.{mostLevels, atOrBelow, countFits, reflexive, transitive, antisymmetric, belowTop, orderPasses}
 
 pub record IsOrder (o : Order) : Type 0 where
   pub some : 1 ≤ o .count

@@ -1,0 +1,30 @@
+use mathlib.Core.Path.{sym, _∙_}
+use native.Mathlib.Omega.{arith}
+use borrow.Author.Needs.{needs}
+use Rattle.bits.specs.BitLaws.{one-shl}
+use Rattle.levels.specs.OrderRows.{above, levelPasses}
+use Rattle.levels.proofs.level_passes.Statement.{statement}
+use Rattle.levels.proofs.level_passes.Tie as tie
+
+returns : tie.Need-returns
+unfolding levelPasses above
+returns c =
+    let s = c .before .before in
+    let e = one-shl 16 (s .before .before .args .a) (omega arith) in
+    c .is-closed .ensures ∙ rw (sym (s .row-fits .ensures) ∙ c .before .if1 .taken, e)
+
+returns-2 : tie.Need-returns-2
+unfolding levelPasses
+returns-2 c = rw (sym (c .before .row-fits .ensures) ∙ c .if1 .left)
+
+pub level-passes-spec : {M : Type 1} → statement M
+level-passes-spec =
+    tie.close
+    (tie.spec
+    (λ c. search needs)
+    (λ c. search needs)
+    (λ c κs. search needs)
+    (λ c. search needs)
+    (λ c κs. search needs)
+    returns
+    returns-2)
