@@ -9,3 +9,4 @@ pub mod SpreadLaws
 pub mod Trials
 pub mod TrialsProved
 pub mod TableLaws
+pub mod EffectLaws

@@ -2,7 +2,7 @@
 -- Assumes nothing.
 use mathlib.Core.Path.{_≡_, refl, sym, ap, _∙_}
 use mathlib.Core.Logic.{_⊎_, inl, inr, ⊎-elim}
-use mathlib.Core.Bool.{Bool, true, false, not, cond, _||_, true≢false}
+use mathlib.Core.Bool.{Bool, true, false, not, cond, _&&_, _||_, true≢false}
 use mathlib.Core.List.{List}
 use Prim.Native.Nat.{ℕ, _+_, _*_, _<_}
 use native.Mathlib.Omega.{arith}
@@ -127,25 +127,30 @@ module _ (p : ℕ → Bool) (m : Memory) where
   each-keeps P x v q h = ⊎-elim (λ e. rw e (one-keeps P x v q (h e))) (λ e. rw e q) (either (p x))
 
   -- what each store of a mark keeps
-  where-keeps : (P : Memory → Type 0) → ((x : ℕ) (v : Memory) → p x ≡ true → marked v x ≡ false → P v → P (record { bytes = setField (v .bytes) x 5 1; words = v .words }))
+  pub where-keeps : (P : Memory → Type 0)
+      → ((x : ℕ) (v : Memory) → x < numbers → p x ≡ true → marked v x ≡ false → P v → P (record { bytes = setField (v .bytes) x 5 1; words = v .words }))
       → P m → P (markWhere p m)
   unfolding markWhere at-each
-  where-keeps P h q = up-keeps at-each P numbers (λ x v l r. each-keeps P x v r (λ e n. h x v e n r)) m q
+  where-keeps P h q = up-keeps at-each P numbers (λ x v l r. each-keeps P x v r (λ e n. h x v l e n r)) m q
+
+  -- where all that pass are marked already, nothing changes
+  pub where-rest : ((x : ℕ) → x < numbers → p x ≡ true → marked m x ≡ true) → markWhere p m ≡ m
+  where-rest h = where-keeps (λ v. v ≡ m) (λ x v l e n q. absurd (true≢false (sym (h x l e) ∙ ap (λ (u : Memory). marked u x) (sym q) ∙ n))) refl
 
   pub where-words : markWhere p m .words ≡ m .words
-  where-words = where-keeps (λ v. v .words ≡ m .words) (λ x v e n q. q) refl
+  where-words = where-keeps (λ v. v .words ≡ m .words) (λ x v l e n q. q) refl
 
   pub where-length : length (markWhere p m .bytes) ≡ length (m .bytes)
-  where-length = where-keeps (λ v. length (v .bytes) ≡ length (m .bytes)) (λ x v e n q. length-field (v .bytes) x 5 1 ∙ q) refl
+  where-length = where-keeps (λ v. length (v .bytes) ≡ length (m .bytes)) (λ x v l e n q. length-field (v .bytes) x 5 1 ∙ q) refl
 
   pub where-field : (x f : ℕ) → f < 8 → (f ≡ 5 → ⊥) → field (markWhere p m .bytes) x f ≡ field (m .bytes) x f
   where-field x f l n =
-      where-keeps (λ v. field (v .bytes) x f ≡ field (m .bytes) x f) (λ y v e k q. field-else (v .bytes) y 5 1 x f (omega arith) l (inr n) ∙ q) refl
+      where-keeps (λ v. field (v .bytes) x f ≡ field (m .bytes) x f) (λ y v b e k q. field-else (v .bytes) y 5 1 x f (omega arith) l (inr n) ∙ q) refl
 
   -- a mark that was there stays as it was
   pub where-kept : (x : ℕ) → marked m x ≡ true → field (markWhere p m .bytes) x 5 ≡ field (m .bytes) x 5
   unfolding marked
-  where-kept x h = where-keeps (λ v. field (v .bytes) x 5 ≡ field (m .bytes) x 5) (λ y v e n q. field-else (v .bytes) y 5 1 x 5 (omega arith) (omega arith) (inl (other y v n q)) ∙ q) refl
+  where-kept x h = where-keeps (λ v. field (v .bytes) x 5 ≡ field (m .bytes) x 5) (λ y v b e n q. field-else (v .bytes) y 5 1 x 5 (omega arith) (omega arith) (inl (other y v n q)) ∙ q) refl
     where
       other : (y : ℕ) (v : Memory) → marked v y ≡ false → field (v .bytes) x 5 ≡ field (m .bytes) x 5 → x ≡ y → ⊥
       other y v n q e = true≢false (sym h ∙ ap (λ (k : ℕ). not (eqb k 0)) (sym q) ∙ ap (λ (k : ℕ). not (eqb (field (v .bytes) k 5) 0)) e ∙ n)
@@ -153,7 +158,7 @@ module _ (p : ℕ → Bool) (m : Memory) where
   pub where-not : (x : ℕ) → p x ≡ false → field (markWhere p m .bytes) x 5 ≡ field (m .bytes) x 5
   where-not x h =
       where-keeps (λ v. field (v .bytes) x 5 ≡ field (m .bytes) x 5)
-      (λ y v e n q. field-else (v .bytes) y 5 1 x 5 (omega arith) (omega arith) (inl (λ d. true≢false (sym e ∙ ap p (sym d) ∙ h))) ∙ q) refl
+      (λ y v b e n q. field-else (v .bytes) y 5 1 x 5 (omega arith) (omega arith) (inl (λ d. true≢false (sym e ∙ ap p (sym d) ∙ h))) ∙ q) refl
 
   pub where-new : (x : ℕ) → x < numbers → length (m .bytes) ≡ 1024 → marked m x ≡ false → p x ≡ true → field (markWhere p m .bytes) x 5 ≡ 1
   unfolding markWhere at-each marked
@@ -172,6 +177,16 @@ module _ (p : ℕ → Bool) (m : Memory) where
       after y v r (inl s) = inr s
       after y v (inl r) (inr s) = inl (ap (λ (k : ℕ). not (eqb k 0)) s ∙ r)
       after y v (inr r) (inr s) = inr (s ∙ r)
+
+  -- the mark as a number: 3 stays 3
+  pub where-marks : (x : ℕ) → x < numbers → length (m .bytes) ≡ 1024
+      → field (markWhere p m .bytes) x 5 ≡ cond (p x && not (marked m x)) 1 (field (m .bytes) x 5)
+  where-marks x l len = go (either (marked m x)) (either (p x))
+    where
+      go : (marked m x ≡ true) ⊎ (marked m x ≡ false) → (p x ≡ true) ⊎ (p x ≡ false) → field (markWhere p m .bytes) x 5 ≡ cond (p x && not (marked m x)) 1 (field (m .bytes) x 5)
+      go k (inr q) = where-not x q ∙ rw q
+      go (inl h) (inl q) = where-kept x h ∙ rw (q, h)
+      go (inr n) (inl q) = where-new x l len n q ∙ rw (q, n)
 
   pub marked-where : (x : ℕ) → x < numbers → length (m .bytes) ≡ 1024 → marked (markWhere p m) x ≡ (marked m x || p x)
   unfolding marked

@@ -1,0 +1,445 @@
+-- What each effect does to what the memory says. At a concrete effect, or list of effects, each law computes to one equation.
+-- Assumes nothing.
+use mathlib.Core.Path.{_≡_, refl, sym, ap, ap₂, _∙_}
+use mathlib.Core.Logic.{_⊎_, inl, inr}
+use mathlib.Core.Bool.{Bool, true, false, not, cond, _&&_, _||_, and-eq-true-iff}
+use mathlib.Core.List.{List, [], _∷_}
+use Prim.Native.Nat.{ℕ, zero, suc, _+_, _*_, _<_}
+use native.Mathlib.Nat.{zero-add}
+use native.Mathlib.Omega.{arith}
+use lib.Dec.{eqb}
+use lib.ListN.{length, getD, length-set, getD-replicate}
+use lib.Seq.{getD-set-same, getD-set-other}
+use borrow.Author.Tests.{eqb-true, eqb-false, eq-eqb, ne-eqb}
+use Rattle.bits.specs.All.{one}
+use Rattle.bits.specs.AllLaws.{either, and-i, and-l, and-r, or-false, or-true, both-ways}
+use Rattle.rows.specs.Rows.{cell, addCell}
+use Rattle.rows.specs.RowLaws.{cell-add, cell-clear, length-add, length-clear}
+use Rattle.records.specs.Records.{numbers, recordSize, field, setField, setRecord, marks, isTask, isObject}
+use Rattle.model.specs.State.{Memory, rowSize, tables, lengthsFit, inUse, task, object, levelOf, readLevelOf, driverOf, containerOf, marked, hasFlow, hasRead, hasWrite}
+use Rattle.model.specs.Effects.{Effect, flow, flow-if, read-access, write-access, make-task, make-object, move-to, clear, mark-outside, mark-thing, objectOf, withBytes, effect, effects}
+use Rattle.model.specs.MarkLaws.{where-words, where-length, where-field, where-marks, marked-where}
+
+-- ---- what an effect has to fit
+
+-- the memory's lengths are right
+pub record Long (m : Memory) : Type 0 where
+  pub bytes-long : length (m .bytes) ≡ recordSize * numbers
+  pub words-long : length (m .words) ≡ rowSize * (numbers * tables)
+
+pub fit-long : (m : Memory) → lengthsFit m ≡ true → Long m
+unfolding lengthsFit
+fit-long m h = let p = simp and-eq-true-iff at h in record { bytes-long = eqb-true _ _ (p .0); words-long = eqb-true _ _ (p .1) }
+
+pub long-fits : {m : Memory} → Long m → lengthsFit m ≡ true
+unfolding lengthsFit
+long-fits l = and-i (eq-eqb _ _ (l .bytes-long)) (eq-eqb _ _ (l .words-long))
+
+-- the numbers whose record, row or column it writes are below 128
+abbrev pub Fits : Effect → Type 0
+Fits (flow x y) = (x < numbers) × (y < numbers)
+Fits (flow-if b x y) = (x < numbers) × (y < numbers)
+Fits (read-access e x) = (e < numbers) × (x < numbers)
+Fits (write-access e x) = (e < numbers) × (x < numbers)
+Fits (make-task n l r) = n < numbers
+Fits (make-object n l d c b) = n < numbers
+Fits (move-to x c) = x < numbers
+Fits (clear x) = x < numbers
+Fits (mark-outside e) = e < numbers
+Fits (mark-thing x) = x < numbers
+
+abbrev pub AllOf : (Effect → Type 0) → List Effect → Type 0
+AllOf Q [] = Unit {0}
+AllOf Q (e ∷ es) = Q e × AllOf Q es
+
+abbrev pub AllFit : List Effect → Type 0
+AllFit es = AllOf Fits es
+
+-- ---- lengths
+
+length-field : (bs : List ℕ) (x f v : ℕ) → length (setField bs x f v) ≡ length bs
+unfolding setField
+length-field bs x f v = length-set bs _ _
+
+length-record : (bs : List ℕ) (x k l r d c w : ℕ) → length (setRecord bs x k l r d c w) ≡ length bs
+unfolding setRecord
+length-record bs x k l r d c w = simp length-field
+
+pub effect-bytes : (e : Effect) (m : Memory) → length (effect e m .bytes) ≡ length (m .bytes)
+unfolding effect
+effect-bytes (flow x y) m = refl
+effect-bytes (flow-if b x y) m = refl
+effect-bytes (read-access e x) m = refl
+effect-bytes (write-access e x) m = refl
+effect-bytes (make-task n l r) m = length-record (m .bytes) n _ _ _ _ _ _
+effect-bytes (make-object n l d c b) m = length-record (m .bytes) n _ _ _ _ _ _
+effect-bytes (move-to x c) m = length-field (m .bytes) x _ _
+effect-bytes (clear x) m = length-record (m .bytes) x _ _ _ _ _ _
+effect-bytes (mark-outside e) m = where-length _ _ ∙ length-field (m .bytes) e _ _
+effect-bytes (mark-thing x) m = where-length _ _
+
+pub effect-words : (e : Effect) (m : Memory) → length (effect e m .words) ≡ length (m .words)
+unfolding effect
+effect-words (flow x y) m = length-add _ _ _ _
+effect-words (flow-if true x y) m = length-add _ _ _ _
+effect-words (flow-if false x y) m = refl
+effect-words (read-access e x) m = length-add _ _ _ _
+effect-words (write-access e x) m = length-add _ _ _ _
+effect-words (make-task n l r) m = refl
+effect-words (make-object n l d c b) m = refl
+effect-words (move-to x c) m = refl
+effect-words (clear x) m = length-clear rowSize numbers tables x (m .words)
+effect-words (mark-outside e) m = ap length (where-words _ _)
+effect-words (mark-thing x) m = ap length (where-words _ _)
+
+pub effect-long : (e : Effect) {m : Memory} → Long m → Long (effect e m)
+effect-long e {m} l = record { bytes-long = effect-bytes e m ∙ l .bytes-long; words-long = effect-words e m ∙ l .words-long }
+
+pub effects-long : (es : List Effect) {m : Memory} → Long m → Long (effects es m)
+unfolding effects
+effects-long [] l = l
+effects-long (e ∷ es) l = effects-long es (effect-long e l)
+
+-- ---- a list of effects, seen effect by effect
+
+abbrev pub inTurn : {A : Type 0} → (Effect → A → A) → List Effect → A → A
+inTurn f [] a = a
+inTurn f (e ∷ es) a = inTurn f es (f e a)
+
+-- what is seen after a list follows from what is seen before it, where that is so of each effect
+pub lift : {A : Type 0} (see : Memory → A) (after : Effect → A → A) (Q : Effect → Type 0)
+    → ((e : Effect) (m : Memory) → Long m → Q e → see (effect e m) ≡ after e (see m))
+    → (es : List Effect) (m : Memory) → Long m → AllOf Q es → see (effects es m) ≡ inTurn after es (see m)
+unfolding effects
+lift see after Q h [] m l f = refl
+lift see after Q h (e ∷ es) m l f = lift see after Q h es (effect e m) (effect-long e l) (f .1) ∙ ap (inTurn after es) (h e m l (f .0))
+
+-- ---- flows and accesses: table 0, 1 and 2
+
+-- column v of row u of table i, from what it was
+abbrev pub cellAfter : ℕ → ℕ → ℕ → Effect → Bool → Bool
+cellAfter i u v (flow x y) b = cond (eqb i 0) (b || (eqb u x && eqb v y)) b
+cellAfter i u v (flow-if c x y) b = cond (eqb i 0) (b || (c && (eqb u x && eqb v y))) b
+cellAfter i u v (read-access e x) b = cond (eqb i 1) (b || (eqb u e && eqb v x)) b
+cellAfter i u v (write-access e x) b = cond (eqb i 2) (b || (eqb u e && eqb v x)) b
+cellAfter i u v (make-task n l r) b = b
+cellAfter i u v (make-object n l d c w) b = b
+cellAfter i u v (move-to x c) b = b
+cellAfter i u v (clear x) b = b && not (eqb u x) && not (eqb v x)
+cellAfter i u v (mark-outside e) b = b
+cellAfter i u v (mark-thing x) b = b
+
+same-row : (i j u x : ℕ) → u < numbers → x < numbers → eqb (numbers * i + u) (numbers * j + x) ≡ (eqb i j && eqb u x)
+same-row i j u x lu lx = both-ways _ _ there back
+  where
+    there : eqb (numbers * i + u) (numbers * j + x) ≡ true → (eqb i j && eqb u x) ≡ true
+    there e =
+        let q : numbers * i + u ≡ numbers * j + x = eqb-true _ _ e in
+        and-i (eq-eqb i j (omega arith)) (eq-eqb u x (omega arith))
+
+    back : (eqb i j && eqb u x) ≡ true → eqb (numbers * i + u) (numbers * j + x) ≡ true
+    back e =
+        let p = eqb-true i j (and-l (eqb i j) (eqb u x) e) in
+        let q = eqb-true u x (and-r (eqb i j) (eqb u x) e) in
+        eq-eqb (numbers * i + u) (numbers * j + x) (omega arith)
+
+table-add : (ws : List ℕ) (i j x y u v : ℕ) → length ws ≡ rowSize * (numbers * tables) → j < tables → x < numbers → y < numbers → u < numbers → v < numbers
+    → cell rowSize (addCell rowSize ws (numbers * j + x) y) (numbers * i + u) v
+    ≡ cond (eqb i j) (cell rowSize ws (numbers * i + u) v || (eqb u x && eqb v y)) (cell rowSize ws (numbers * i + u) v)
+table-add ws i j x y u v l lj lx ly lu lv =
+    cell-add rowSize ws (numbers * j + x) y (numbers * i + u) v (omega arith) ly lv
+    ∙ ap (λ (b : Bool). cell rowSize ws (numbers * i + u) v || (b && eqb v y)) (same-row i j u x lu lx)
+    ∙ go (eqb i j) (cell rowSize ws (numbers * i + u) v)
+  where
+    go : (s b : Bool) → (b || ((s && eqb u x) && eqb v y)) ≡ cond s (b || (eqb u x && eqb v y)) b
+    go true b = refl
+    go false true = refl
+    go false false = refl
+
+-- the flows are the first table
+flow-add : (m : Memory) (i x y u v : ℕ) → Long m → (x < numbers) × (y < numbers) → u < numbers → v < numbers
+    → cell rowSize (addCell rowSize (m .words) x y) (numbers * i + u) v
+    ≡ cond (eqb i 0) (cell rowSize (m .words) (numbers * i + u) v || (eqb u x && eqb v y)) (cell rowSize (m .words) (numbers * i + u) v)
+flow-add m i x y u v l f lu lv =
+    ap (λ (r : ℕ). cell rowSize (addCell rowSize (m .words) r y) (numbers * i + u) v) (sym (zero-add x))
+    ∙ table-add (m .words) i 0 x y u v (l .words-long) (omega arith) (f .0) (f .1) lu lv
+
+table-after : (i : ℕ) (e : Effect) (m : Memory) → i < tables → Long m → Fits e → (u v : ℕ) → u < numbers → v < numbers
+    → cell rowSize (effect e m .words) (numbers * i + u) v ≡ cellAfter i u v e (cell rowSize (m .words) (numbers * i + u) v)
+unfolding effect
+table-after i (flow x y) m li l f u v lu lv = flow-add m i x y u v l f lu lv
+table-after i (flow-if true x y) m li l f u v lu lv = flow-add m i x y u v l f lu lv
+table-after i (flow-if false x y) m li l f u v lu lv = no-flow (eqb i 0) (cell rowSize (m .words) (numbers * i + u) v)
+  where
+    no-flow : (c b : Bool) → b ≡ cond c (b || false) b
+    no-flow true b = sym (or-false b)
+    no-flow false b = refl
+table-after i (read-access e x) m li l f u v lu lv = table-add (m .words) i 1 e x u v (l .words-long) (omega arith) (f .0) (f .1) lu lv
+table-after i (write-access e x) m li l f u v lu lv = table-add (m .words) i 2 e x u v (l .words-long) (omega arith) (f .0) (f .1) lu lv
+table-after i (make-task n l r) m li h f u v lu lv = refl
+table-after i (make-object n l d c b) m li h f u v lu lv = refl
+table-after i (move-to x c) m li l f u v lu lv = refl
+table-after i (clear x) m li l f u v lu lv = cell-clear rowSize numbers tables x (m .words) i u v li lu lv f f
+table-after i (mark-outside e) m li l f u v lu lv = rw where-words
+table-after i (mark-thing x) m li l f u v lu lv = rw where-words
+
+module _ (u v : ℕ) (lu : u < numbers) (lv : v < numbers) where
+  pub flow-after : (e : Effect) (m : Memory) → Long m → Fits e → hasFlow (effect e m) u v ≡ cellAfter 0 u v e (hasFlow m u v)
+  unfolding hasFlow
+  flow-after e m l f = rw (zero-add u) at (table-after 0 e m (omega arith) l f u v lu lv)
+
+  pub read-after : (e : Effect) (m : Memory) → Long m → Fits e → hasRead (effect e m) u v ≡ cellAfter 1 u v e (hasRead m u v)
+  unfolding hasRead
+  read-after e m l f = table-after 1 e m (omega arith) l f u v lu lv
+
+  pub write-after : (e : Effect) (m : Memory) → Long m → Fits e → hasWrite (effect e m) u v ≡ cellAfter 2 u v e (hasWrite m u v)
+  unfolding hasWrite
+  write-after e m l f = table-after 2 e m (omega arith) l f u v lu lv
+
+  pub flows-after : (es : List Effect) (m : Memory) → Long m → AllFit es → hasFlow (effects es m) u v ≡ inTurn (cellAfter 0 u v) es (hasFlow m u v)
+  flows-after = lift (λ m. hasFlow m u v) (cellAfter 0 u v) Fits flow-after
+
+  pub reads-after : (es : List Effect) (m : Memory) → Long m → AllFit es → hasRead (effects es m) u v ≡ inTurn (cellAfter 1 u v) es (hasRead m u v)
+  reads-after = lift (λ m. hasRead m u v) (cellAfter 1 u v) Fits read-after
+
+  pub writes-after : (es : List Effect) (m : Memory) → Long m → AllFit es → hasWrite (effects es m) u v ≡ inTurn (cellAfter 2 u v) es (hasWrite m u v)
+  writes-after = lift (λ m. hasWrite m u v) (cellAfter 2 u v) Fits write-after
+
+-- ---- the bytes of a record, but for the marks that marking changes
+
+-- what a test t says of byte f of the record of x, from what it said before
+abbrev pub byteAfter : {A : Type 0} → (ℕ → A) → ℕ → ℕ → Effect → A → A
+byteAfter t x f (flow y z) b = b
+byteAfter t x f (flow-if c y z) b = b
+byteAfter t x f (read-access e y) b = b
+byteAfter t x f (write-access e y) b = b
+byteAfter t x f (make-task n l r) b = cond (eqb x n) (t (getD (1 ∷ l ∷ r ∷ 0 ∷ 0 ∷ 0 ∷ 0 ∷ 0 ∷ []) f 0)) b
+byteAfter t x f (make-object n l d c w) b = cond (eqb x n) (t (getD (2 ∷ l ∷ 0 ∷ d ∷ c ∷ one w ∷ 0 ∷ 0 ∷ []) f 0)) b
+byteAfter t x f (move-to y c) b = cond (eqb f 4 && eqb x y) (t c) b
+byteAfter t x f (clear y) b = cond (eqb x y) (t 0) b
+byteAfter t x f (mark-outside e) b = b
+byteAfter t x f (mark-thing y) b = b
+
+-- the byte is not the marks, or the effect marks nothing
+abbrev pub Apart : ℕ → Effect → Type 0
+Apart f (flow y z) = Unit {0}
+Apart f (flow-if c y z) = Unit {0}
+Apart f (read-access e y) = Unit {0}
+Apart f (write-access e y) = Unit {0}
+Apart f (make-task n l r) = Unit {0}
+Apart f (make-object n l d c w) = Unit {0}
+Apart f (move-to y c) = Unit {0}
+Apart f (clear y) = Unit {0}
+Apart f (mark-outside e) = f ≡ 5 → ⊥
+Apart f (mark-thing y) = f ≡ 5 → ⊥
+
+field-set : (bs : List ℕ) (y g v x f : ℕ) → length bs ≡ recordSize * numbers → y < numbers → g < 8 → f < 8
+    → field (setField bs y g v) x f ≡ cond (eqb f g && eqb x y) v (field bs x f)
+unfolding field setField
+field-set bs y g v x f l ly lg lf = go (either (eqb f g)) (either (eqb x y))
+  where
+    go : (eqb f g ≡ true) ⊎ (eqb f g ≡ false) → (eqb x y ≡ true) ⊎ (eqb x y ≡ false) → field (setField bs y g v) x f ≡ cond (eqb f g && eqb x y) v (field bs x f)
+    go (inl e) (inl d) =
+        let e′ = eqb-true f g e in
+        let d′ = eqb-true x y d in
+        rw (e, d, e′, d′) (getD-set-same bs (8 * y + g) v 0 (omega arith))
+    go (inl e) (inr d) = let d′ = eqb-false x y d in rw (e, d) (getD-set-other bs (8 * y + g) (8 * x + f) v 0 (λ q. d′ (omega arith)))
+    go (inr e) d = let e′ = eqb-false f g e in rw e (getD-set-other bs (8 * y + g) (8 * x + f) v 0 (λ q. e′ (omega arith)))
+
+cond-ap : {A : Type 0} (t : ℕ → A) (b : Bool) (u v : ℕ) → t (cond b u v) ≡ cond b (t u) (t v)
+cond-ap t true u v = refl
+cond-ap t false u v = refl
+
+field-record : (bs : List ℕ) (n k l r d c w x f : ℕ) → length bs ≡ recordSize * numbers → n < numbers → f < 8
+    → field (setRecord bs n k l r d c w) x f ≡ cond (eqb x n) (getD (k ∷ l ∷ r ∷ d ∷ c ∷ w ∷ 0 ∷ 0 ∷ []) f 0) (field bs x f)
+unfolding setRecord
+field-record bs n k l r d c w x f len ln = at f
+  where
+    put : (f g v : ℕ) (b : List ℕ) {old : ℕ} → f < 8 → g < 8 → (length b ≡ recordSize * numbers) × (field b x f ≡ old)
+        → (length (setField b n g v) ≡ recordSize * numbers) × (field (setField b n g v) x f ≡ cond (eqb f g && eqb x n) v old)
+    put f g v b lf lg h = (length-field b n g v ∙ h .0, field-set b n g v x f (h .0) ln lg lf ∙ ap (cond (eqb f g && eqb x n) v) (h .1))
+
+    all : (f : ℕ) → f < 8 → field (setRecord bs n k l r d c w) x f
+        ≡ cond (eqb f 7 && eqb x n) 0 (cond (eqb f 6 && eqb x n) 0 (cond (eqb f 5 && eqb x n) w (cond (eqb f 4 && eqb x n) c
+        (cond (eqb f 3 && eqb x n) d (cond (eqb f 2 && eqb x n) r (cond (eqb f 1 && eqb x n) l (cond (eqb f 0 && eqb x n) k (field bs x f))))))))
+    all f h =
+        put f 7 0 _ h (omega arith) (put f 6 0 _ h (omega arith) (put f 5 w _ h (omega arith) (put f 4 c _ h (omega arith)
+        (put f 3 d _ h (omega arith) (put f 2 r _ h (omega arith) (put f 1 l _ h (omega arith) (put f 0 k bs h (omega arith) (len, refl)))))))) .1
+
+    at : (f : ℕ) → f < 8 → field (setRecord bs n k l r d c w) x f ≡ cond (eqb x n) (getD (k ∷ l ∷ r ∷ d ∷ c ∷ w ∷ 0 ∷ 0 ∷ []) f 0) (field bs x f)
+    at zero h = all 0 h
+    at (suc zero) h = all 1 h
+    at (suc (suc zero)) h = all 2 h
+    at (suc (suc (suc zero))) h = all 3 h
+    at (suc (suc (suc (suc zero)))) h = all 4 h
+    at (suc (suc (suc (suc (suc zero))))) h = all 5 h
+    at (suc (suc (suc (suc (suc (suc zero)))))) h = all 6 h
+    at (suc (suc (suc (suc (suc (suc (suc zero))))))) h = all 7 h
+    at (suc (suc (suc (suc (suc (suc (suc (suc f)))))))) h = absurd (omega arith)
+
+record-test : {A : Type 0} (t : ℕ → A) (bs : List ℕ) (n k l r d c w x f : ℕ) → length bs ≡ recordSize * numbers → n < numbers → f < 8
+    → t (field (setRecord bs n k l r d c w) x f) ≡ cond (eqb x n) (t (getD (k ∷ l ∷ r ∷ d ∷ c ∷ w ∷ 0 ∷ 0 ∷ []) f 0)) (t (field bs x f))
+record-test t bs n k l r d c w x f len ln lf =
+    ap t (field-record bs n k l r d c w x f len ln lf) ∙ cond-ap t (eqb x n) (getD (k ∷ l ∷ r ∷ d ∷ c ∷ w ∷ 0 ∷ 0 ∷ []) f 0) (field bs x f)
+
+pub byte-after : {A : Type 0} (t : ℕ → A) (x f : ℕ) → f < 8 → (e : Effect) (m : Memory) → Long m → Fits e → Apart f e
+    → t (field (effect e m .bytes) x f) ≡ byteAfter t x f e (t (field (m .bytes) x f))
+unfolding effect
+byte-after t x f lf (flow y z) m l h a = refl
+byte-after t x f lf (flow-if c y z) m l h a = refl
+byte-after t x f lf (read-access e y) m l h a = refl
+byte-after t x f lf (write-access e y) m l h a = refl
+byte-after t x f lf (make-task n k r) m l h a = record-test t (m .bytes) n _ _ _ _ _ _ x f (l .bytes-long) h lf
+byte-after t x f lf (make-object n k d c w) m l h a = record-test t (m .bytes) n _ _ _ _ _ _ x f (l .bytes-long) h lf
+byte-after t x f lf (move-to y c) m l h a = ap t (field-set (m .bytes) y 4 c x f (l .bytes-long) h (omega arith) lf) ∙ cond-ap t (eqb f 4 && eqb x y) c (field (m .bytes) x f)
+byte-after t x f lf (clear y) m l h a =
+    record-test t (m .bytes) y _ _ _ _ _ _ x f (l .bytes-long) h lf
+    ∙ ap (λ (b : ℕ). cond (eqb x y) (t b) (t (field (m .bytes) x f))) (getD-replicate 8 f 0 0 lf)
+byte-after t x f lf (mark-outside e) m l h a =
+    ap t (where-field _ _ x f lf a ∙ field-set (m .bytes) e 5 3 x f (l .bytes-long) h (omega arith) lf ∙ rw (ne-eqb f 5 a))
+byte-after t x f lf (mark-thing y) m l h a = ap t (where-field _ _ x f lf a)
+
+apart : (f : ℕ) → (f ≡ 5 → ⊥) → (e : Effect) → Apart f e
+apart f n (flow y z) = tt
+apart f n (flow-if c y z) = tt
+apart f n (read-access e y) = tt
+apart f n (write-access e y) = tt
+apart f n (make-task k l r) = tt
+apart f n (make-object k l d c w) = tt
+apart f n (move-to y c) = tt
+apart f n (clear y) = tt
+apart f n (mark-outside e) = n
+apart f n (mark-thing y) = n
+
+-- whether x is marked, after an effect that marks nothing
+abbrev pub markedAfter : ℕ → Effect → Bool → Bool
+markedAfter x (flow y z) b = b
+markedAfter x (flow-if c y z) b = b
+markedAfter x (read-access e y) b = b
+markedAfter x (write-access e y) b = b
+markedAfter x (make-task n l r) b = cond (eqb x n) false b
+markedAfter x (make-object n l d c w) b = cond (eqb x n) w b
+markedAfter x (move-to y c) b = b
+markedAfter x (clear y) b = cond (eqb x y) false b
+markedAfter x (mark-outside e) b = b
+markedAfter x (mark-thing y) b = b
+
+same-marked : (x : ℕ) (e : Effect) (b : Bool) → byteAfter (λ k. not (eqb k 0)) x 5 e b ≡ markedAfter x e b
+same-marked x (flow y z) b = refl
+same-marked x (flow-if c y z) b = refl
+same-marked x (read-access e y) b = refl
+same-marked x (write-access e y) b = refl
+same-marked x (make-task n l r) b = refl
+same-marked x (make-object n l d c true) b = refl
+same-marked x (make-object n l d c false) b = refl
+same-marked x (move-to y c) b = refl
+same-marked x (clear y) b = refl
+same-marked x (mark-outside e) b = refl
+same-marked x (mark-thing y) b = refl
+
+module _ (x : ℕ) where
+  see : {A : Type 0} (t : ℕ → A) (f : ℕ) → f < 8 → (f ≡ 5 → ⊥) → (e : Effect) (m : Memory) → Long m → Fits e
+      → t (field (effect e m .bytes) x f) ≡ byteAfter t x f e (t (field (m .bytes) x f))
+  see t f lf n e m l h = byte-after t x f lf e m l h (apart f n e)
+
+  pub inUse-after : (e : Effect) (m : Memory) → Long m → Fits e → inUse (effect e m) x ≡ byteAfter (λ k. not (eqb k 0)) x 0 e (inUse m x)
+  unfolding inUse
+  inUse-after = see (λ k. not (eqb k 0)) 0 (omega arith) (omega arith)
+
+  pub task-after : (e : Effect) (m : Memory) → Long m → Fits e → task (effect e m) x ≡ byteAfter (λ k. eqb k 1) x 0 e (task m x)
+  unfolding task isTask
+  task-after = see (λ k. eqb k 1) 0 (omega arith) (omega arith)
+
+  pub object-after : (e : Effect) (m : Memory) → Long m → Fits e → object (effect e m) x ≡ byteAfter (λ k. eqb k 2) x 0 e (object m x)
+  unfolding object isObject
+  object-after = see (λ k. eqb k 2) 0 (omega arith) (omega arith)
+
+  pub level-after : (e : Effect) (m : Memory) → Long m → Fits e → levelOf (effect e m) x ≡ byteAfter (λ k. k) x 1 e (levelOf m x)
+  level-after = see (λ k. k) 1 (omega arith) (omega arith)
+
+  pub readLevel-after : (e : Effect) (m : Memory) → Long m → Fits e → readLevelOf (effect e m) x ≡ byteAfter (λ k. k) x 2 e (readLevelOf m x)
+  readLevel-after = see (λ k. k) 2 (omega arith) (omega arith)
+
+  pub driver-after : (e : Effect) (m : Memory) → Long m → Fits e → driverOf (effect e m) x ≡ byteAfter (λ k. k) x 3 e (driverOf m x)
+  driver-after = see (λ k. k) 3 (omega arith) (omega arith)
+
+  pub container-after : (e : Effect) (m : Memory) → Long m → Fits e → containerOf (effect e m) x ≡ byteAfter (λ k. k) x 4 e (containerOf m x)
+  container-after = see (λ k. k) 4 (omega arith) (omega arith)
+
+  pub inUses-after : (es : List Effect) (m : Memory) → Long m → AllFit es → inUse (effects es m) x ≡ inTurn (byteAfter (λ k. not (eqb k 0)) x 0) es (inUse m x)
+  inUses-after = lift (λ m. inUse m x) _ Fits inUse-after
+
+  pub tasks-after : (es : List Effect) (m : Memory) → Long m → AllFit es → task (effects es m) x ≡ inTurn (byteAfter (λ k. eqb k 1) x 0) es (task m x)
+  tasks-after = lift (λ m. task m x) _ Fits task-after
+
+  pub objects-after : (es : List Effect) (m : Memory) → Long m → AllFit es → object (effects es m) x ≡ inTurn (byteAfter (λ k. eqb k 2) x 0) es (object m x)
+  objects-after = lift (λ m. object m x) _ Fits object-after
+
+  pub levels-after : (es : List Effect) (m : Memory) → Long m → AllFit es → levelOf (effects es m) x ≡ inTurn (byteAfter (λ k. k) x 1) es (levelOf m x)
+  levels-after = lift (λ m. levelOf m x) _ Fits level-after
+
+  pub readLevels-after : (es : List Effect) (m : Memory) → Long m → AllFit es → readLevelOf (effects es m) x ≡ inTurn (byteAfter (λ k. k) x 2) es (readLevelOf m x)
+  readLevels-after = lift (λ m. readLevelOf m x) _ Fits readLevel-after
+
+  pub drivers-after : (es : List Effect) (m : Memory) → Long m → AllFit es → driverOf (effects es m) x ≡ inTurn (byteAfter (λ k. k) x 3) es (driverOf m x)
+  drivers-after = lift (λ m. driverOf m x) _ Fits driver-after
+
+  pub containers-after : (es : List Effect) (m : Memory) → Long m → AllFit es → containerOf (effects es m) x ≡ inTurn (byteAfter (λ k. k) x 4) es (containerOf m x)
+  containers-after = lift (λ m. containerOf m x) _ Fits container-after
+
+  -- ---- marks
+
+  -- byte 5 itself, after an effect that marks nothing
+  pub marks-after : (e : Effect) (m : Memory) → Long m → Fits e × Apart 5 e → marks (effect e m .bytes) x ≡ byteAfter (λ k. k) x 5 e (marks (m .bytes) x)
+  marks-after e m l h = byte-after (λ k. k) x 5 (omega arith) e m l (h .0) (h .1)
+
+  pub marked-after : (e : Effect) (m : Memory) → Long m → Fits e × Apart 5 e → marked (effect e m) x ≡ markedAfter x e (marked m x)
+  unfolding marked
+  marked-after e m l h = byte-after (λ k. not (eqb k 0)) x 5 (omega arith) e m l (h .0) (h .1) ∙ same-marked x e (marked m x)
+
+  pub allMarks-after : (es : List Effect) (m : Memory) → Long m → AllOf (λ e. Fits e × Apart 5 e) es
+      → marks (effects es m .bytes) x ≡ inTurn (byteAfter (λ k. k) x 5) es (marks (m .bytes) x)
+  allMarks-after = lift (λ m. marks (m .bytes) x) _ _ marks-after
+
+  pub allMarked-after : (es : List Effect) (m : Memory) → Long m → AllOf (λ e. Fits e × Apart 5 e) es
+      → marked (effects es m) x ≡ inTurn (markedAfter x) es (marked m x)
+  allMarked-after = lift (λ m. marked m x) (markedAfter x) _ marked-after
+
+  -- after the two that mark
+  module _ (m : Memory) (l : Long m) (lx : x < numbers) where
+    -- the store of 3, before the task's objects are marked
+    stored : (e : ℕ) → e < numbers → field (setField (m .bytes) e 5 3) x 5 ≡ cond (eqb x e) 3 (marks (m .bytes) x)
+    stored e le = field-set (m .bytes) e 5 3 x 5 (l .bytes-long) le (omega arith) (omega arith)
+
+    stored-marked : (e : ℕ) → e < numbers → marked (withBytes m (setField (m .bytes) e 5 3)) x ≡ cond (eqb x e) true (marked m x)
+    unfolding marked
+    stored-marked e le = ap (λ (k : ℕ). not (eqb k 0)) (stored e le) ∙ cond-ap (λ k. not (eqb k 0)) (eqb x e) 3 (marks (m .bytes) x)
+
+    pub outside-marks : (e : ℕ) → e < numbers → marks (effect (mark-outside e) m .bytes) x ≡ cond (eqb x e) 3 (cond (objectOf m e x && not (marked m x)) 1 (marks (m .bytes) x))
+    unfolding effect
+    outside-marks e le =
+        where-marks _ _ x lx (length-field (m .bytes) e 5 3 ∙ l .bytes-long)
+        ∙ ap₂ (λ (b : Bool) (k : ℕ). cond (objectOf m e x && not b) 1 k) (stored-marked e le) (stored e le)
+        ∙ go (eqb x e) (objectOf m e x)
+      where
+        go : (a p : Bool) → cond (p && not (cond a true (marked m x))) 1 (cond a 3 (marks (m .bytes) x)) ≡ cond a 3 (cond (p && not (marked m x)) 1 (marks (m .bytes) x))
+        go true true = refl
+        go true false = refl
+        go false p = refl
+
+    pub outside-marked : (e : ℕ) → e < numbers → marked (effect (mark-outside e) m) x ≡ (marked m x || (eqb x e || objectOf m e x))
+    unfolding effect
+    outside-marked e le =
+        marked-where _ _ x lx (length-field (m .bytes) e 5 3 ∙ l .bytes-long) ∙ ap (λ (b : Bool). b || objectOf m e x) (stored-marked e le) ∙ go (eqb x e)
+      where
+        go : (a : Bool) → (cond a true (marked m x) || objectOf m e x) ≡ (marked m x || (a || objectOf m e x))
+        go true = sym (or-true (marked m x))
+        go false = refl
+
+    pub thing-marks : (y : ℕ) → marks (effect (mark-thing y) m .bytes) x ≡ cond ((eqb x y || (task m y && objectOf m y x)) && not (marked m x)) 1 (marks (m .bytes) x)
+    unfolding effect
+    thing-marks y = where-marks _ m x lx (l .bytes-long)
+
+    pub thing-marked : (y : ℕ) → marked (effect (mark-thing y) m) x ≡ (marked m x || (eqb x y || (task m y && objectOf m y x)))
+    unfolding effect
+    thing-marked y = marked-where _ m x lx (l .bytes-long)
