@@ -1,0 +1,76 @@
+-- Laws of sets in two words.
+-- Assumes nothing.
+use mathlib.Core.Path.{_≡_, refl, sym, ap, ap₂, _∙_}
+use mathlib.Core.Logic.{_⊎_, inl, inr, ⊎-elim}
+use mathlib.Core.Bool.{Bool, true, false, not, cond, _&&_, _||_}
+use Prim.Native.Nat.{ℕ, _+_, _-_, _^_, _≤_, _<_}
+use native.Mathlib.Nat.{zero-add}
+use native.Mathlib.Omega.{arith}
+use lib.Dec.{ltb}
+use borrow.Author.Tests.{ltb-true, ltb-false, lt-ltb, le-ltb}
+use Rattle.bits.specs.Bit.{bit, wordOf}
+use Rattle.bits.specs.BitLaws.{bit-word, word-is, word-lt}
+use Rattle.bits.specs.AllLaws.{either}
+use Rattle.marking.specs.declared.sets.Set.{Set}
+use Rattle.marking.specs.Sets.{has, setOf}
+
+-- both are words
+pub record Fits (s : Set) : Type 0 where
+  pub low : s .low < 2 ^ 64
+  pub high : s .high < 2 ^ 64
+
+pub set-fits : (p : ℕ → Bool) → Fits (setOf p)
+unfolding setOf
+set-fits p = record { low = word-lt p; high = word-lt _ }
+
+pub has-low : (s : Set) (i : ℕ) → i < 64 → has s i ≡ bit (s .low) i
+unfolding has
+has-low s i l = rw (lt-ltb i 64 l)
+
+pub has-high : (s : Set) (i : ℕ) → i < 64 → has s (64 + i) ≡ bit (s .high) i
+unfolding has
+has-high s i l =
+    let e : 64 + i - 64 ≡ i = omega arith in
+    let n : ltb (64 + i) 64 ≡ false = le-ltb (64 + i) 64 (omega arith) in
+    rw (n, e)
+
+-- ---- a set is that of its numbers
+
+pub set-is : (p : ℕ → Bool) (s : Set) → Fits s → ((x : ℕ) → x < 128 → has s x ≡ p x) → s ≡ setOf p
+unfolding setOf
+set-is p s f e =
+    let low = word-is p (s .low) (f .low) (λ i l. sym (has-low s i l) ∙ e i (omega arith)) in
+    let high = word-is (λ i. p (64 + i)) (s .high) (f .high) (λ i l. sym (has-high s i l) ∙ e (64 + i) (omega arith)) in
+    λ i. record { low = low i; high = high i }
+
+pub has-set : (p : ℕ → Bool) (x : ℕ) → x < 128 → has (setOf p) x ≡ p x
+unfolding has setOf
+has-set p x l = go (either (ltb x 64))
+  where
+    go : (ltb x 64 ≡ true) ⊎ (ltb x 64 ≡ false) → cond (ltb x 64) (bit (wordOf p) x) (bit (wordOf (λ i. p (64 + i))) (x - 64)) ≡ p x
+    go (inl e) = rw e (bit-word p x (ltb-true x 64 e))
+    go (inr e) =
+        let h : 64 ≤ x = ltb-false x 64 e in
+        let f : 64 + (x - 64) ≡ x = omega arith in
+        rw e (bit-word (λ i. p (64 + i)) (x - 64) (omega arith) ∙ ap p f)
+
+pub set-ext : (p q : ℕ → Bool) → ((x : ℕ) → x < 128 → p x ≡ q x) → setOf p ≡ setOf q
+set-ext p q e = set-is q (setOf p) (set-fits p) (λ x l. has-set p x l ∙ e x l)
+
+-- a set by its two words
+pub set-pair : (p : ℕ → Bool) {a b : ℕ} → a ≡ wordOf (λ i. p (0 + i)) → b ≡ wordOf (λ i. p (64 + i)) → record { low = a; high = b } ≡ setOf p
+unfolding setOf
+set-pair p e f =
+    let low = e ∙ word-is p _ (word-lt _) (λ i l. bit-word (λ i. p (0 + i)) i l ∙ ap p (zero-add i)) in
+    λ i. record { low = low i; high = f i }
+
+-- ---- an operation on the words that acts on each bit
+
+module _ (op : Bool → Bool → Bool) (g : ℕ → ℕ → ℕ) (bit-g : (a b i : ℕ) → b < 2 ^ 64 → i < 64 → bit (g a b) i ≡ op (bit a i) (bit b i))
+    (g-lt : (a b : ℕ) → a < 2 ^ 64 → b < 2 ^ 64 → g a b < 2 ^ 64) where
+  pub each-bit : (a b : Set) → Fits a → Fits b → record { low = g (a .low) (b .low); high = g (a .high) (b .high) } ≡ setOf (λ x. op (has a x) (has b x))
+  unfolding setOf
+  each-bit a b fa fb =
+      let low = word-is (λ x. op (has a x) (has b x)) _ (g-lt _ _ (fa .low) (fb .low)) (λ i l. bit-g _ _ i (fb .low) l ∙ ap₂ op (sym (has-low a i l)) (sym (has-low b i l))) in
+      let high = word-is (λ i. op (has a (64 + i)) (has b (64 + i))) _ (g-lt _ _ (fa .high) (fb .high)) (λ i l. bit-g _ _ i (fb .high) l ∙ ap₂ op (sym (has-high a i l)) (sym (has-high b i l))) in
+      λ i. record { low = low i; high = high i }

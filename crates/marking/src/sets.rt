@@ -1,0 +1,69 @@
+// Sets of numbers, a bit for each, in two words.
+ghost use mathlib.Core.Path.{_≡_};
+ghost use mathlib.Core.Bool.{not, _&&_, _||_};
+ghost use Prim.Native.Nat.{_+_, _≤_, _<_};
+ghost use lib.Dec.{eqb};
+ghost use lib.ListN.{length};
+ghost use Rattle.bits.specs.Bit.{wordOf};
+ghost use Rattle.records.specs.Records.{field};
+ghost use Rattle.marking.specs.Sets.{has, setOf};
+
+// Number x is bit x of the low word, or bit x - 64 of the high one.
+pub struct Set {
+    pub low: u64,
+    pub high: u64,
+}
+
+const RECORD_SIZE: usize = 8;
+
+// The word of 64 numbers, from the first on: whose byte f is not zero.
+fn word_with(bytes: &[u8], first: usize, f: usize) -> u64
+    requires { ⌜ (length (now bytes) ≡ 1024) × (first ≤ 64) × (f < 8) ⌝ }
+    ensures { λ r. ⌜ r ≡ wordOf (λ i. not (eqb (field (now (bytes .entry)) (first + i) f) 0)) ⌝ }
+{
+    let mut w: u64 = 0;
+    let mut i: usize = 0;
+    while i < 64 {
+        w = w | (((bytes[RECORD_SIZE * (first + i) + f] != 0) as u64) << i);
+        i += 1;
+    }
+    w
+}
+
+// The numbers whose byte f is not zero.
+pub fn with_field(bytes: &[u8], f: usize) -> Set
+    requires { ⌜ (length (now bytes) ≡ 1024) × (f < 8) ⌝ }
+    ensures { λ r. ⌜ r ≡ setOf (λ x. not (eqb (field (now (bytes .entry)) x f) 0)) ⌝ }
+{
+    Set {
+        low: word_with(bytes, 0, f),
+        high: word_with(bytes, 64, f),
+    }
+}
+
+pub fn union(a: Set, b: Set) -> Set
+    ensures { λ r. ⌜ r ≡ setOf (λ x. has a x || has b x) ⌝ }
+{
+    Set {
+        low: a.low | b.low,
+        high: a.high | b.high,
+    }
+}
+
+pub fn common(a: Set, b: Set) -> Set
+    ensures { λ r. ⌜ r ≡ setOf (λ x. has a x && has b x) ⌝ }
+{
+    Set {
+        low: a.low & b.low,
+        high: a.high & b.high,
+    }
+}
+
+pub fn without(a: Set, b: Set) -> Set
+    ensures { λ r. ⌜ r ≡ setOf (λ x. has a x && not (has b x)) ⌝ }
+{
+    Set {
+        low: a.low & !b.low,
+        high: a.high & !b.high,
+    }
+}
