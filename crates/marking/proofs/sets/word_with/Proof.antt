@@ -38,9 +38,11 @@ unfolding field
 loop-again c =
     let i = c .before .before .loop .i in
     let a = c .before .before .before .args in
-    let p = test (a .bytes .now) (a .first) (a .f) in
-    (omega arith, ap (bitOr (c .before .before .loop .w)) (shifted (p i) i (omega arith)) ∙ ap (λ (w : ℕ). bitOr w (cond (p i) (2 ^ i) 0)) (c .before .before .loop .inv .1)
-    ∙ low-more p i ∙ ap (lowWord p) (sym (add-one i)))
+    let p = test (a .bytes .now) (a .first) (a .f) in (
+      omega arith,
+      ap (bitOr (c .before .before .loop .w)) (shifted (p i) i (omega arith)) ∙ ap (λ (w : ℕ). bitOr w (cond (p i) (2 ^ i) 0)) (c .before .before .loop .inv .1)
+          ∙ low-more p i ∙ ap (lowWord p) (sym (add-one i)),
+    )
 
 returns : tie.Need-returns Inv-loop μ-loop
 unfolding wordOf lowWord
