@@ -10,3 +10,4 @@ pub mod Trials
 pub mod TrialsProved
 pub mod TableLaws
 pub mod EffectLaws
+pub mod RiskLaws
