@@ -1,0 +1,284 @@
+/*
+ * The integrity monitor: C face (C99 and C++).
+ *
+ * The monitor follows tasks and objects, their levels, who read and wrote
+ * what, and which of them are marked as captured. It keeps nothing of its own:
+ * each call is lent 1,024 bytes and 768 words, and the order of the levels.
+ *
+ * Either lend your own memory to tupehiwo_perform and tupehiwo_report, or keep
+ * a struct tupehiwo_monitor and use the inline function of each call below.
+ *
+ * Link with libmonitor.a.
+ */
+#ifndef TUPEHIWO_H
+#define TUPEHIWO_H
+
+#include <stddef.h>
+#include <stdint.h>
+
+#ifdef __cplusplus
+extern "C" {
+#endif
+
+/* ------------------------------------------------------------------ sizes */
+
+enum {
+    TUPEHIWO_THINGS = 128, /* numbers 0 to 127; 0 is the core, a task */
+    TUPEHIWO_BYTES = 1024, /* eight bytes for each number */
+    TUPEHIWO_WORDS = 768,  /* flows at 0, read accesses at 256, write accesses at 512 */
+    TUPEHIWO_LEVELS = 16   /* rows of an order */
+};
+
+/* --------------------------------------------------------------- verdicts */
+
+/* What a call answers. The lowest refusal that applies is given. */
+enum {
+    TUPEHIWO_GRANTED = 0, /* done */
+    TUPEHIWO_SLIPPED = 1, /* done, though only a marked driver lets it through */
+    TUPEHIWO_STATE = 2,   /* a length is wrong, or the bytes are not sound */
+    TUPEHIWO_ORDER = 3,   /* the order is not a partial order with its top */
+    TUPEHIWO_NUMBER = 4,  /* a number is 128 or more, free, or of the wrong kind */
+    TUPEHIWO_TAKEN = 5,   /* a new number is in use */
+    TUPEHIWO_DRIVER = 6,  /* the driver named is not the object's */
+    TUPEHIWO_PLACE = 7,   /* not in the container named, or things must differ */
+    TUPEHIWO_HELD = 8,    /* an access or flow that is needed is not recorded */
+    TUPEHIWO_SCALE = 9,   /* a level given is not below the count */
+    TUPEHIWO_PATH = 10,   /* the path test of read or call fails */
+    TUPEHIWO_RULE = 11,   /* another level test fails */
+    TUPEHIWO_FILLED = 12, /* a container to be deleted holds an object */
+    TUPEHIWO_STILL = 13   /* a step has nothing to mark */
+};
+
+/* ------------------------------------------------------------------ codes */
+
+/* What a request asks for; its arguments fill a, b, c, d, e in this order. */
+enum {
+    TUPEHIWO_CODE_START = 0,
+    TUPEHIWO_CODE_READ = 1,        /* task, driver, object */
+    TUPEHIWO_CODE_WRITE = 2,       /* task, driver, object */
+    TUPEHIWO_CODE_EXECUTE = 3,     /* creator, image, new, level, read level */
+    TUPEHIWO_CODE_CREATE = 4,      /* creator, driver, new, container, level */
+    TUPEHIWO_CODE_CREATE_ROOT = 5, /* creator, driver, new, level */
+    TUPEHIWO_CODE_MOVE = 6,        /* task, driver, object, from, to */
+    TUPEHIWO_CODE_DELETE = 7,      /* task, driver, object, container */
+    TUPEHIWO_CODE_CALL = 8,        /* caller, callee */
+    TUPEHIWO_CODE_INVOKE = 9,      /* invoker, invokee */
+    TUPEHIWO_CODE_PASS = 10,       /* z, x, y */
+    TUPEHIWO_CODE_POST = 11,       /* x, z, y */
+    TUPEHIWO_CODE_FIND = 12,       /* x, z, y */
+    TUPEHIWO_CODE_MARK = 13,       /* task */
+    TUPEHIWO_CODE_STEP = 14,       /* x */
+    TUPEHIWO_CODE_SPREAD = 15
+};
+
+/* ------------------------------------------------------------ the library */
+
+/* Bit j of row i says that level i is at or below level j. */
+struct tupehiwo_order {
+    uint16_t rows[16];
+    uint16_t count;
+    uint16_t top;
+};
+
+/* How many calls were granted, slipped and refused; each stops at 4,294,967,295. */
+struct tupehiwo_tally {
+    uint32_t granted, slipped, refused;
+};
+
+/* A verdict, and the rounds that marked something if a spread was granted. */
+struct tupehiwo_answer {
+    uint8_t verdict;
+    uint8_t rounds;
+};
+
+/* A code, and its arguments; those that the code does not use are ignored. */
+struct tupehiwo_request {
+    uint16_t code, a, b, c, d, e;
+};
+
+/* A bit for each marked number (0 lowest), and how many there are. */
+struct tupehiwo_report {
+    uint64_t words[2];
+    uint32_t ones;
+    uint8_t verdict;
+};
+
+/*
+ * Performs one call on the memory lent and counts it in the tally. A refusal
+ * leaves bytes and words as they were. A code that names no call is an unfit
+ * number (TUPEHIWO_NUMBER).
+ */
+struct tupehiwo_answer tupehiwo_perform(uint8_t *bytes, size_t nbytes, uint64_t *words,
+                                        size_t nwords, struct tupehiwo_tally *tally,
+                                        struct tupehiwo_order order,
+                                        struct tupehiwo_request request);
+
+/* The marked numbers; no words and no ones when refused (state, order). */
+struct tupehiwo_report tupehiwo_report(const uint8_t *bytes, size_t nbytes,
+                                       const uint64_t *words, size_t nwords,
+                                       struct tupehiwo_order order);
+
+/* The lowest marked number that is from or more; 128 if there is none. */
+uint16_t tupehiwo_next_marked(struct tupehiwo_report report, uint16_t from);
+
+/* ------------------------------------------------- one function each call */
+
+/*
+ * The memory of one monitor. All zeros is a fit beginning: every call but a
+ * start is then refused with TUPEHIWO_STATE.
+ */
+struct tupehiwo_monitor {
+    uint8_t bytes[TUPEHIWO_BYTES];
+    uint64_t words[TUPEHIWO_WORDS];
+    struct tupehiwo_tally tally;
+    struct tupehiwo_order order; /* that of the last granted start */
+};
+
+/* Any call: what each of the functions below is made of. */
+static inline struct tupehiwo_answer tupehiwo_do(struct tupehiwo_monitor *m, uint16_t code,
+                                                 uint16_t a, uint16_t b, uint16_t c,
+                                                 uint16_t d, uint16_t e)
+{
+    struct tupehiwo_request request = {code, a, b, c, d, e};
+    return tupehiwo_perform(m->bytes, TUPEHIWO_BYTES, m->words, TUPEHIWO_WORDS, &m->tally,
+                            m->order, request);
+}
+
+/* Begins anew under an order: the core alone. A refused start keeps the old order. */
+static inline uint8_t tupehiwo_start(struct tupehiwo_monitor *m, struct tupehiwo_order order)
+{
+    struct tupehiwo_request request = {TUPEHIWO_CODE_START, 0, 0, 0, 0, 0};
+    struct tupehiwo_answer answer =
+        tupehiwo_perform(m->bytes, TUPEHIWO_BYTES, m->words, TUPEHIWO_WORDS, &m->tally, order,
+                         request);
+    if (answer.verdict == TUPEHIWO_GRANTED)
+        m->order = order;
+    return answer.verdict;
+}
+
+/* A task reads an object through the object's driver. */
+static inline uint8_t tupehiwo_read(struct tupehiwo_monitor *m, uint16_t task, uint16_t driver,
+                                    uint16_t object)
+{
+    return tupehiwo_do(m, TUPEHIWO_CODE_READ, task, driver, object, 0, 0).verdict;
+}
+
+/* A task writes an object through the object's driver. */
+static inline uint8_t tupehiwo_write(struct tupehiwo_monitor *m, uint16_t task, uint16_t driver,
+                                     uint16_t object)
+{
+    return tupehiwo_do(m, TUPEHIWO_CODE_WRITE, task, driver, object, 0, 0).verdict;
+}
+
+/* Makes a new task from an image object. */
+static inline uint8_t tupehiwo_execute(struct tupehiwo_monitor *m, uint16_t creator,
+                                       uint16_t image, uint16_t made, uint16_t level,
+                                       uint16_t read_level)
+{
+    return tupehiwo_do(m, TUPEHIWO_CODE_EXECUTE, creator, image, made, level, read_level)
+        .verdict;
+}
+
+/* Makes a new object in a container that creator and driver may write. */
+static inline uint8_t tupehiwo_create(struct tupehiwo_monitor *m, uint16_t creator,
+                                      uint16_t driver, uint16_t made, uint16_t container,
+                                      uint16_t level)
+{
+    return tupehiwo_do(m, TUPEHIWO_CODE_CREATE, creator, driver, made, container, level)
+        .verdict;
+}
+
+/* Makes a new object in no container. */
+static inline uint8_t tupehiwo_create_root(struct tupehiwo_monitor *m, uint16_t creator,
+                                           uint16_t driver, uint16_t made, uint16_t level)
+{
+    return tupehiwo_do(m, TUPEHIWO_CODE_CREATE_ROOT, creator, driver, made, level, 0).verdict;
+}
+
+/* Moves an object from one container to another. */
+static inline uint8_t tupehiwo_move(struct tupehiwo_monitor *m, uint16_t task, uint16_t driver,
+                                    uint16_t object, uint16_t from, uint16_t to)
+{
+    return tupehiwo_do(m, TUPEHIWO_CODE_MOVE, task, driver, object, from, to).verdict;
+}
+
+/* Deletes an empty object from its container, with its flows and accesses. */
+static inline uint8_t tupehiwo_delete(struct tupehiwo_monitor *m, uint16_t task,
+                                      uint16_t driver, uint16_t object, uint16_t container)
+{
+    return tupehiwo_do(m, TUPEHIWO_CODE_DELETE, task, driver, object, container, 0).verdict;
+}
+
+/* A task calls another and takes its answer. */
+static inline uint8_t tupehiwo_call(struct tupehiwo_monitor *m, uint16_t caller,
+                                    uint16_t callee)
+{
+    return tupehiwo_do(m, TUPEHIWO_CODE_CALL, caller, callee, 0, 0, 0).verdict;
+}
+
+/* A task invokes another without an answer. */
+static inline uint8_t tupehiwo_invoke(struct tupehiwo_monitor *m, uint16_t invoker,
+                                      uint16_t invokee)
+{
+    return tupehiwo_do(m, TUPEHIWO_CODE_INVOKE, invoker, invokee, 0, 0, 0).verdict;
+}
+
+/* Task z, which reads object x and feeds y, passes x on: flow x to y. */
+static inline uint8_t tupehiwo_pass(struct tupehiwo_monitor *m, uint16_t z, uint16_t x,
+                                    uint16_t y)
+{
+    return tupehiwo_do(m, TUPEHIWO_CODE_PASS, z, x, y, 0, 0).verdict;
+}
+
+/* Task x, which feeds object z, reaches the task y that reads it: flow x to y. */
+static inline uint8_t tupehiwo_post(struct tupehiwo_monitor *m, uint16_t x, uint16_t z,
+                                    uint16_t y)
+{
+    return tupehiwo_do(m, TUPEHIWO_CODE_POST, x, z, y, 0, 0).verdict;
+}
+
+/* Task x, which feeds task z, reaches what z feeds: flow x to y. */
+static inline uint8_t tupehiwo_find(struct tupehiwo_monitor *m, uint16_t x, uint16_t z,
+                                    uint16_t y)
+{
+    return tupehiwo_do(m, TUPEHIWO_CODE_FIND, x, z, y, 0, 0).verdict;
+}
+
+/* Marks a task from outside, and its objects. */
+static inline uint8_t tupehiwo_mark(struct tupehiwo_monitor *m, uint16_t task)
+{
+    return tupehiwo_do(m, TUPEHIWO_CODE_MARK, task, 0, 0, 0, 0).verdict;
+}
+
+/* Marks one thing that a marked one feeds, and its objects if it is a task. */
+static inline uint8_t tupehiwo_step(struct tupehiwo_monitor *m, uint16_t x)
+{
+    return tupehiwo_do(m, TUPEHIWO_CODE_STEP, x, 0, 0, 0, 0).verdict;
+}
+
+/* Marks all that the marked things reach, and tells in how many rounds. */
+static inline struct tupehiwo_answer tupehiwo_spread(struct tupehiwo_monitor *m)
+{
+    return tupehiwo_do(m, TUPEHIWO_CODE_SPREAD, 0, 0, 0, 0, 0);
+}
+
+/* The report on this monitor's memory. */
+static inline struct tupehiwo_report tupehiwo_marked(const struct tupehiwo_monitor *m)
+{
+    return tupehiwo_report(m->bytes, TUPEHIWO_BYTES, m->words, TUPEHIWO_WORDS, m->order);
+}
+
+/* The word for a verdict, as "granted"; "unknown" for a number that is none. */
+static inline const char *tupehiwo_word(uint8_t verdict)
+{
+    static const char *const words[] = {"granted", "slipped", "state", "order", "number",
+                                        "taken",   "driver",  "place", "held",  "scale",
+                                        "path",    "rule",    "filled", "still"};
+    return verdict < sizeof words / sizeof words[0] ? words[verdict] : "unknown";
+}
+
+#ifdef __cplusplus
+}
+#endif
+
+#endif

@@ -1,0 +1,162 @@
+//! The library's own functions and values, as `include/tupehiwo.h` declares
+//! them: for those who lend memory of their own.
+
+/// Numbers of things are below this.
+pub const THINGS: u16 = 128;
+
+/// The order of the levels, lent by value to each call.
+///
+/// Bit `j` of row `i` says that level `i` is at or below level `j`.
+#[repr(C)]
+#[derive(Clone, Copy, Debug, Default, PartialEq, Eq)]
+pub struct Order {
+    pub rows: [u16; 16],
+    pub count: u16,
+    pub top: u16,
+}
+
+/// How many calls were granted, slipped and refused; each count stops at
+/// 4,294,967,295.
+#[repr(C)]
+#[derive(Clone, Copy, Debug, Default, PartialEq, Eq)]
+pub struct Tally {
+    pub granted: u32,
+    pub slipped: u32,
+    pub refused: u32,
+}
+
+/// A verdict's number, and the rounds of a granted spread.
+#[repr(C)]
+#[derive(Clone, Copy, Debug, PartialEq, Eq)]
+pub struct Answer {
+    pub verdict: u8,
+    pub rounds: u8,
+}
+
+/// A call's code, and its arguments; those that the code does not use are ignored.
+#[repr(C)]
+#[derive(Clone, Copy, Debug, Default, PartialEq, Eq)]
+pub struct Request {
+    pub code: u16,
+    pub a: u16,
+    pub b: u16,
+    pub c: u16,
+    pub d: u16,
+    pub e: u16,
+}
+
+/// A bit for each marked number, how many there are, and a verdict's number.
+#[repr(C)]
+#[derive(Clone, Copy, Debug, PartialEq, Eq)]
+pub struct Report {
+    pub words: [u64; 2],
+    pub ones: u32,
+    pub verdict: u8,
+}
+
+unsafe extern "C" {
+    /// Performs one call on the memory lent and counts it in the tally.
+    ///
+    /// # Safety
+    ///
+    /// `bytes` and `words` must be valid for reads and writes of `nbytes` bytes
+    /// and `nwords` words, and `tally` for a record; none may overlap another.
+    pub fn tupehiwo_perform(
+        bytes: *mut u8,
+        nbytes: usize,
+        words: *mut u64,
+        nwords: usize,
+        tally: *mut Tally,
+        order: Order,
+        request: Request,
+    ) -> Answer;
+
+    /// Reports the marked numbers.
+    ///
+    /// # Safety
+    ///
+    /// `bytes` and `words` must be valid for reads of `nbytes` bytes and
+    /// `nwords` words.
+    pub fn tupehiwo_report(
+        bytes: *const u8,
+        nbytes: usize,
+        words: *const u64,
+        nwords: usize,
+        order: Order,
+    ) -> Report;
+
+    /// The lowest marked number that is `from` or more; 128 if there is none.
+    pub safe fn tupehiwo_next_marked(report: Report, from: u16) -> u16;
+}
+
+/// [`tupehiwo_perform`] over slices of any length.
+pub fn perform(
+    bytes: &mut [u8],
+    words: &mut [u64],
+    tally: &mut Tally,
+    order: Order,
+    request: Request,
+) -> Answer {
+    // SAFETY: the pointers are those of slices and a reference lent for change,
+    // which never overlap, with the slices' own lengths.
+    unsafe {
+        tupehiwo_perform(
+            bytes.as_mut_ptr(),
+            bytes.len(),
+            words.as_mut_ptr(),
+            words.len(),
+            tally,
+            order,
+            request,
+        )
+    }
+}
+
+/// [`tupehiwo_report`] over slices of any length.
+pub fn report(bytes: &[u8], words: &[u64], order: Order) -> Report {
+    // SAFETY: the pointers are those of slices, with the slices' own lengths.
+    unsafe {
+        tupehiwo_report(
+            bytes.as_ptr(),
+            bytes.len(),
+            words.as_ptr(),
+            words.len(),
+            order,
+        )
+    }
+}
+
+/// The code of each call; its arguments fill `a`, `b`, `c`, `d`, `e` in the
+/// order named beside it.
+pub mod code {
+    pub const START: u16 = 0;
+    /// task, driver, object
+    pub const READ: u16 = 1;
+    /// task, driver, object
+    pub const WRITE: u16 = 2;
+    /// creator, image, new, level, read level
+    pub const EXECUTE: u16 = 3;
+    /// creator, driver, new, container, level
+    pub const CREATE: u16 = 4;
+    /// creator, driver, new, level
+    pub const CREATE_ROOT: u16 = 5;
+    /// task, driver, object, from, to
+    pub const MOVE: u16 = 6;
+    /// task, driver, object, container
+    pub const DELETE: u16 = 7;
+    /// caller, callee
+    pub const CALL: u16 = 8;
+    /// invoker, invokee
+    pub const INVOKE: u16 = 9;
+    /// z, x, y
+    pub const PASS: u16 = 10;
+    /// x, z, y
+    pub const POST: u16 = 11;
+    /// x, z, y
+    pub const FIND: u16 = 12;
+    /// task
+    pub const MARK: u16 = 13;
+    /// x
+    pub const STEP: u16 = 14;
+    pub const SPREAD: u16 = 15;
+}

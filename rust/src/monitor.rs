@@ -1,0 +1,277 @@
+use crate::ffi::{self, Order, Request, Tally, code};
+use crate::report::Report;
+use crate::verdict::Verdict;
+
+/// Bytes of memory: eight for each number.
+pub const BYTES: usize = 1024;
+/// Words of memory: flows at 0, read accesses at 256, write accesses at 512.
+pub const WORDS: usize = 768;
+
+/// What a spread answers.
+#[must_use = "a refused call has done nothing"]
+#[derive(Clone, Copy, Debug, PartialEq, Eq)]
+pub struct Answer {
+    pub verdict: Verdict,
+    /// Rounds that marked something; 0 when refused.
+    pub rounds: u8,
+}
+
+/// The owner of a monitor's memory, with a method for each call.
+///
+/// Numbers of tasks and objects go from 0 to 127; task 0 is the core. A number
+/// or level that does not fit is refused, never a panic.
+#[derive(Clone, Debug, PartialEq, Eq)]
+pub struct Monitor {
+    bytes: Box<[u8; BYTES]>,
+    words: Box<[u64; WORDS]>,
+    tally: Tally,
+    order: Order,
+}
+
+impl Default for Monitor {
+    fn default() -> Monitor {
+        Monitor::new()
+    }
+}
+
+impl Monitor {
+    /// Memory of zeros: every call but a start is refused with `State`.
+    pub fn new() -> Monitor {
+        Monitor::from_memory([0; BYTES], [0; WORDS], Tally::default(), Order::default())
+    }
+
+    /// Goes on with memory that another monitor left, or any other: where it is
+    /// not sound, every call but a start is refused with `State`.
+    ///
+    /// ```
+    /// use tupehiwo::{Monitor, Order, Verdict};
+    ///
+    /// let mut first = Monitor::new();
+    /// assert_eq!(first.start(Order::new(0, [1])), Verdict::Granted);
+    /// let second =
+    ///     Monitor::from_memory(*first.bytes(), *first.words(), first.tally(), first.order());
+    /// assert_eq!(second, first);
+    /// ```
+    pub fn from_memory(
+        bytes: [u8; BYTES],
+        words: [u64; WORDS],
+        tally: Tally,
+        order: Order,
+    ) -> Monitor {
+        Monitor {
+            bytes: Box::new(bytes),
+            words: Box::new(words),
+            tally,
+            order,
+        }
+    }
+
+    /// The records of the things.
+    pub fn bytes(&self) -> &[u8; BYTES] {
+        &self.bytes
+    }
+
+    /// The rows of flows and accesses.
+    pub fn words(&self) -> &[u64; WORDS] {
+        &self.words
+    }
+
+    /// How many calls were granted, slipped and refused.
+    pub fn tally(&self) -> Tally {
+        self.tally
+    }
+
+    /// The order of the last granted start.
+    pub fn order(&self) -> Order {
+        self.order
+    }
+
+    /// Begins anew under an order: the core alone, at the top.
+    ///
+    /// A refused start keeps the memory and the order of before.
+    ///
+    /// ```
+    /// use tupehiwo::{Monitor, Order, Verdict};
+    ///
+    /// let mut monitor = Monitor::new();
+    /// assert_eq!(monitor.mark(0), Verdict::State);
+    /// assert_eq!(monitor.start(Order::new(1, [3, 2])), Verdict::Granted);
+    /// assert_eq!(monitor.start(Order::new(2, [3, 2])), Verdict::Order);
+    /// assert_eq!(monitor.mark(0), Verdict::Granted);
+    /// assert_eq!((monitor.tally().granted, monitor.tally().refused), (2, 2));
+    /// ```
+    pub fn start(&mut self, order: Order) -> Verdict {
+        let verdict = self.perform(order, code::START, []).verdict;
+        if verdict == Verdict::Granted {
+            self.order = order;
+        }
+        verdict
+    }
+
+    /// A task reads an object through the object's driver.
+    ///
+    /// An honest driver lets a task read only what is not below it; a marked
+    /// one lets it slip:
+    ///
+    /// ```
+    /// use tupehiwo::{Monitor, Order, Verdict};
+    ///
+    /// // A diamond of levels: 1 and 2 are unrelated.
+    /// let mut monitor = Monitor::new();
+    /// assert_eq!(monitor.start(Order::new(3, [15, 10, 12, 8])), Verdict::Granted);
+    /// assert_eq!(monitor.create_root(0, 0, 10, 3), Verdict::Granted); // an image
+    /// assert_eq!(monitor.execute(0, 10, 1, 1, 1), Verdict::Granted); // a task at 1
+    /// assert_eq!(monitor.execute(0, 10, 2, 3, 3), Verdict::Granted); // a driver at 3
+    /// assert_eq!(monitor.create_root(0, 2, 20, 2), Verdict::Granted); // an object at 2
+    ///
+    /// assert_eq!(monitor.read(1, 2, 20), Verdict::Rule);
+    /// assert_eq!(monitor.mark(2), Verdict::Granted);
+    /// assert_eq!(monitor.read(1, 2, 20), Verdict::Slipped);
+    /// ```
+    pub fn read(&mut self, task: u16, driver: u16, object: u16) -> Verdict {
+        self.ask(code::READ, [task, driver, object])
+    }
+
+    /// A task writes an object through the object's driver.
+    pub fn write(&mut self, task: u16, driver: u16, object: u16) -> Verdict {
+        self.ask(code::WRITE, [task, driver, object])
+    }
+
+    /// Makes a new task from an image object.
+    pub fn execute(
+        &mut self,
+        creator: u16,
+        image: u16,
+        new: u16,
+        level: u16,
+        read_level: u16,
+    ) -> Verdict {
+        self.ask(code::EXECUTE, [creator, image, new, level, read_level])
+    }
+
+    /// Makes a new object in a container that creator and driver may write.
+    pub fn create(
+        &mut self,
+        creator: u16,
+        driver: u16,
+        new: u16,
+        container: u16,
+        level: u16,
+    ) -> Verdict {
+        self.ask(code::CREATE, [creator, driver, new, container, level])
+    }
+
+    /// Makes a new object in no container.
+    pub fn create_root(&mut self, creator: u16, driver: u16, new: u16, level: u16) -> Verdict {
+        self.ask(code::CREATE_ROOT, [creator, driver, new, level])
+    }
+
+    /// Moves an object from one container to another.
+    pub fn move_object(
+        &mut self,
+        task: u16,
+        driver: u16,
+        object: u16,
+        from: u16,
+        to: u16,
+    ) -> Verdict {
+        self.ask(code::MOVE, [task, driver, object, from, to])
+    }
+
+    /// Deletes an empty object from its container, with its flows and accesses.
+    ///
+    /// ```
+    /// use tupehiwo::{Monitor, Order, Verdict};
+    ///
+    /// let mut monitor = Monitor::new();
+    /// assert_eq!(monitor.start(Order::new(0, [1])), Verdict::Granted);
+    /// assert_eq!(monitor.create_root(0, 0, 10, 0), Verdict::Granted);
+    /// assert_eq!(monitor.create(0, 0, 11, 10, 0), Verdict::Held);
+    /// assert_eq!(monitor.write(0, 0, 10), Verdict::Granted);
+    /// assert_eq!(monitor.create(0, 0, 11, 10, 0), Verdict::Granted);
+    /// assert_eq!(monitor.delete(0, 0, 11, 10), Verdict::Granted);
+    /// assert_eq!(monitor.delete(0, 0, 11, 10), Verdict::Number);
+    /// ```
+    pub fn delete(&mut self, task: u16, driver: u16, object: u16, container: u16) -> Verdict {
+        self.ask(code::DELETE, [task, driver, object, container])
+    }
+
+    /// A task calls another and takes its answer.
+    pub fn call(&mut self, caller: u16, callee: u16) -> Verdict {
+        self.ask(code::CALL, [caller, callee])
+    }
+
+    /// A task invokes another without an answer.
+    pub fn invoke(&mut self, invoker: u16, invokee: u16) -> Verdict {
+        self.ask(code::INVOKE, [invoker, invokee])
+    }
+
+    /// Task `z`, which reads object `x` and feeds `y`, passes `x` on: flow `x` to `y`.
+    pub fn pass(&mut self, z: u16, x: u16, y: u16) -> Verdict {
+        self.ask(code::PASS, [z, x, y])
+    }
+
+    /// Task `x`, which feeds object `z`, reaches the task `y` that reads it: flow `x` to `y`.
+    pub fn post(&mut self, x: u16, z: u16, y: u16) -> Verdict {
+        self.ask(code::POST, [x, z, y])
+    }
+
+    /// Task `x`, which feeds task `z`, reaches what `z` feeds: flow `x` to `y`.
+    pub fn find(&mut self, x: u16, z: u16, y: u16) -> Verdict {
+        self.ask(code::FIND, [x, z, y])
+    }
+
+    /// Marks a task from outside, and its objects.
+    pub fn mark(&mut self, task: u16) -> Verdict {
+        self.ask(code::MARK, [task])
+    }
+
+    /// Marks one thing that a marked one feeds, and its objects if it is a task.
+    pub fn step(&mut self, x: u16) -> Verdict {
+        self.ask(code::STEP, [x])
+    }
+
+    /// Marks all that the marked things reach, and tells in how many rounds.
+    pub fn spread(&mut self) -> Answer {
+        self.perform(self.order, code::SPREAD, [])
+    }
+
+    /// Tells which numbers are marked. It counts in no tally.
+    pub fn report(&self) -> Report {
+        let raw = ffi::report(&self.bytes[..], &self.words[..], self.order);
+        Report::new(raw, verdict(raw.verdict))
+    }
+
+    fn ask<const N: usize>(&mut self, code: u16, arguments: [u16; N]) -> Verdict {
+        self.perform(self.order, code, arguments).verdict
+    }
+
+    fn perform<const N: usize>(&mut self, order: Order, code: u16, arguments: [u16; N]) -> Answer {
+        let mut all = [0; 5];
+        all[..N].copy_from_slice(&arguments);
+        let [a, b, c, d, e] = all;
+        let request = Request {
+            code,
+            a,
+            b,
+            c,
+            d,
+            e,
+        };
+        let raw = ffi::perform(
+            &mut self.bytes[..],
+            &mut self.words[..],
+            &mut self.tally,
+            order,
+            request,
+        );
+        Answer {
+            verdict: verdict(raw.verdict),
+            rounds: raw.rounds,
+        }
+    }
+}
+
+fn verdict(number: u8) -> Verdict {
+    Verdict::from_number(number).expect("the library answers with a verdict of the table")
+}
