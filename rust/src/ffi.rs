@@ -115,15 +115,7 @@ pub fn perform(
 /// [`tupehiwo_report`] over slices of any length.
 pub fn report(bytes: &[u8], words: &[u64], order: Order) -> Report {
     // SAFETY: the pointers are those of slices, with the slices' own lengths.
-    unsafe {
-        tupehiwo_report(
-            bytes.as_ptr(),
-            bytes.len(),
-            words.as_ptr(),
-            words.len(),
-            order,
-        )
-    }
+    unsafe { tupehiwo_report(bytes.as_ptr(), bytes.len(), words.as_ptr(), words.len(), order) }
 }
 
 /// The code of each call; its arguments fill `a`, `b`, `c`, `d`, `e` in the

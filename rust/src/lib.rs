@@ -67,10 +67,6 @@ impl Order {
             all[i] = rows[i];
             i += 1;
         }
-        Order {
-            rows: all,
-            count: N as u16,
-            top,
-        }
+        Order { rows: all, count: N as u16, top }
     }
 }

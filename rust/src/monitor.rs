@@ -58,12 +58,7 @@ impl Monitor {
         tally: Tally,
         order: Order,
     ) -> Monitor {
-        Monitor {
-            bytes: Box::new(bytes),
-            words: Box::new(words),
-            tally,
-            order,
-        }
+        Monitor { bytes: Box::new(bytes), words: Box::new(words), tally, order }
     }
 
     /// The records of the things.
@@ -250,25 +245,10 @@ impl Monitor {
         let mut all = [0; 5];
         all[..N].copy_from_slice(&arguments);
         let [a, b, c, d, e] = all;
-        let request = Request {
-            code,
-            a,
-            b,
-            c,
-            d,
-            e,
-        };
-        let raw = ffi::perform(
-            &mut self.bytes[..],
-            &mut self.words[..],
-            &mut self.tally,
-            order,
-            request,
-        );
-        Answer {
-            verdict: verdict(raw.verdict),
-            rounds: raw.rounds,
-        }
+        let request = Request { code, a, b, c, d, e };
+        let raw =
+            ffi::perform(&mut self.bytes[..], &mut self.words[..], &mut self.tally, order, request);
+        Answer { verdict: verdict(raw.verdict), rounds: raw.rounds }
     }
 }
 

@@ -46,10 +46,7 @@ impl Report {
     /// assert!(report.marked().eq([0, 127]));
     /// ```
     pub fn marked(&self) -> Marked {
-        Marked {
-            report: self.raw,
-            from: 0,
-        }
+        Marked { report: self.raw, from: 0 }
     }
 }
 

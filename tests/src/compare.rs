@@ -1,0 +1,180 @@
+//! The library and the model side by side.
+
+use crate::model::{BYTES, Lengths, Model, Number, State, WORDS};
+use crate::table::Table;
+use tupehiwo::ffi::{self, Answer, Order, Report, Request, Tally};
+
+/// Memory around what is lent, which must never change. Odd, so that the bytes
+/// lent are not aligned.
+const MARGIN: usize = 61;
+const MARGIN_BYTE: u8 = 0xA5;
+const MARGIN_WORD: u64 = 0xA5A5_5A5A_A5A5_5A5A;
+
+/// Both on the same memory: each call is made of both, and everything that it
+/// answers and leaves must be equal.
+pub struct Pair {
+    pub model: Model,
+    pub table: Table,
+    /// Said when the two differ: how to find the place again.
+    label: String,
+    calls: usize,
+    bytes: Vec<u8>,
+    words: Vec<u64>,
+    tally: Tally,
+    /// What the model says that bytes and words are.
+    expected_bytes: Vec<u8>,
+    expected_words: Vec<u64>,
+}
+
+impl Pair {
+    /// Memory of zeros.
+    pub fn new(label: impl Into<String>) -> Pair {
+        let bytes = vec![MARGIN_BYTE; MARGIN + BYTES + MARGIN];
+        let words = vec![MARGIN_WORD; MARGIN + WORDS + MARGIN];
+        let state = State::read(&[0; BYTES], &[0; WORDS]);
+        let mut pair = Pair {
+            model: Model { state: state.clone(), tally: Tally::default() },
+            table: Table::default(),
+            label: label.into(),
+            calls: 0,
+            expected_bytes: bytes.clone(),
+            expected_words: words.clone(),
+            bytes,
+            words,
+            tally: Tally::default(),
+        };
+        pair.set_state(state);
+        pair
+    }
+
+    /// Memory of a granted start.
+    pub fn started(label: impl Into<String>, order: Order) -> Pair {
+        let mut pair = Pair::new(label);
+        let answer = pair.perform(order, Request::default());
+        assert_eq!(answer.verdict, 0, "the order is meant to pass: {order:?}");
+        pair
+    }
+
+    /// Puts other memory in the place of what the calls left.
+    pub fn set_state(&mut self, state: State) {
+        state.write(&mut self.bytes[MARGIN..][..BYTES], &mut self.words[MARGIN..][..WORDS]);
+        self.model.state = state;
+    }
+
+    /// Puts other bytes in the place of what the calls left, sound or not.
+    pub fn set_byte(&mut self, place: usize, value: u8) {
+        self.bytes[MARGIN + place] = value;
+        let words = &self.words[MARGIN..][..WORDS];
+        self.model.state = State::read(&self.bytes[MARGIN..][..BYTES], words);
+    }
+
+    pub fn set_tally(&mut self, tally: Tally) {
+        self.tally = tally;
+        self.model.tally = tally;
+    }
+
+    /// The library's byte of a record.
+    pub fn byte(&self, place: usize) -> u8 {
+        self.bytes[MARGIN + place]
+    }
+
+    /// Whether the library has recorded this flow.
+    pub fn has_flow(&self, from: Number, to: Number) -> bool {
+        let word = 2 * usize::from(from) + usize::from(to) / 64;
+        self.words[MARGIN + word] >> (to % 64) & 1 == 1
+    }
+
+    /// How many flows the library has recorded.
+    pub fn flows(&self) -> u32 {
+        self.words[MARGIN..][..256].iter().map(|word| word.count_ones()).sum()
+    }
+
+    /// One call on memory of the right lengths, and a report after it.
+    pub fn perform(&mut self, order: Order, request: Request) -> Answer {
+        self.perform_with(Lengths::RIGHT, order, request)
+    }
+
+    /// One call that is lent as much as `lengths` say, and a report after it.
+    pub fn perform_with(&mut self, lengths: Lengths, order: Order, request: Request) -> Answer {
+        self.calls += 1;
+        let answer = ffi::perform(
+            &mut self.bytes[MARGIN..][..lengths.bytes],
+            &mut self.words[MARGIN..][..lengths.words],
+            &mut self.tally,
+            order,
+            request,
+        );
+        let expected = self.model.perform(lengths, &order, request);
+        if answer != expected {
+            self.differ(&order, request, &format!("answers {answer:?}, model {expected:?}"));
+        }
+        self.table.count_call(request.code, answer.verdict);
+        self.compare_memory(&order, request);
+        self.compare_report(lengths, order, request);
+        answer
+    }
+
+    fn compare_memory(&mut self, order: &Order, request: Request) {
+        if self.tally != self.model.tally {
+            let (ours, model) = (self.tally, self.model.tally);
+            self.differ(order, request, &format!("tally {ours:?}, model {model:?}"));
+        }
+        let expected_bytes = &mut self.expected_bytes[MARGIN..][..BYTES];
+        let expected_words = &mut self.expected_words[MARGIN..][..WORDS];
+        self.model.state.write(expected_bytes, expected_words);
+        if self.bytes != self.expected_bytes {
+            let fault = first_difference(&self.bytes, &self.expected_bytes, "byte");
+            self.differ(order, request, &fault);
+        }
+        if self.words != self.expected_words {
+            let fault = first_difference(&self.words, &self.expected_words, "word");
+            self.differ(order, request, &fault);
+        }
+    }
+
+    fn compare_report(&mut self, lengths: Lengths, order: Order, request: Request) {
+        let report = self.report_with(lengths, order);
+        let expected = self.model.report(lengths, &order);
+        if report != expected {
+            self.differ(&order, request, &format!("reports {report:?}, model {expected:?}"));
+        }
+        // A different beginning each time, past the end too.
+        let from = (self.calls % 131) as u16;
+        let next = ffi::tupehiwo_next_marked(report, from);
+        let expected = next_marked(&expected, from);
+        if next != expected {
+            let fault = format!("next marked from {from} is {next}, model {expected}");
+            self.differ(&order, request, &fault);
+        }
+        self.table.count_report(report.verdict);
+    }
+
+    /// The library's report alone.
+    pub fn report_with(&self, lengths: Lengths, order: Order) -> Report {
+        let bytes = &self.bytes[MARGIN..][..lengths.bytes];
+        let words = &self.words[MARGIN..][..lengths.words];
+        ffi::report(bytes, words, order)
+    }
+
+    fn differ(&self, order: &Order, request: Request, fault: &str) -> ! {
+        panic!(
+            "{}, call {}: the library {fault}\nafter {request:?}\nunder {order:?}",
+            self.label, self.calls
+        );
+    }
+}
+
+/// The lowest number in the report that is `from` or more; 128 if there is none.
+pub fn next_marked(report: &Report, from: Number) -> Number {
+    let marked = |&n: &Number| report.words[usize::from(n) / 64] & (1 << (n % 64)) != 0;
+    (from..128).find(marked).unwrap_or(128)
+}
+
+fn first_difference<T: PartialEq + std::fmt::Debug>(ours: &[T], model: &[T], unit: &str) -> String {
+    let place = ours.iter().zip(model).position(|(a, b)| a != b).expect("the two differ");
+    let (a, b) = (&ours[place], &model[place]);
+    match place.checked_sub(MARGIN) {
+        Some(place) => format!("leaves {unit} {place} as {a:?}, model {b:?}"),
+        None => format!("writes before the first {unit} lent"),
+    }
+}

@@ -1,0 +1,128 @@
+//! The paper's rules, on sets and enums instead of bytes and words.
+
+mod events;
+mod marks;
+mod order;
+mod state;
+
+pub use order::{at_or_below, passes};
+pub use state::{BYTES, Mark, Number, Object, Pairs, State, THINGS, Task, Thing, WORDS};
+
+use events::Event;
+use tupehiwo::ffi::{Answer, Order, Report, Request, Tally, code};
+
+/// The paper's verdicts, by their numbers.
+#[derive(Clone, Copy, Debug, PartialEq, Eq)]
+#[repr(u8)]
+pub enum Verdict {
+    Granted = 0,
+    Slipped = 1,
+    State = 2,
+    Order = 3,
+    Number = 4,
+    Taken = 5,
+    Driver = 6,
+    Place = 7,
+    Held = 8,
+    Scale = 9,
+    Path = 10,
+    Rule = 11,
+    Filled = 12,
+    Still = 13,
+}
+
+/// `Ok` if the call is performed (granted or slipped), `Err` if it is refused.
+pub type Outcome = Result<Verdict, Verdict>;
+
+/// How many bytes and words a call is lent.
+#[derive(Clone, Copy, Debug, PartialEq, Eq)]
+pub struct Lengths {
+    pub bytes: usize,
+    pub words: usize,
+}
+
+impl Lengths {
+    pub const RIGHT: Lengths = Lengths { bytes: BYTES, words: WORDS };
+}
+
+#[derive(Clone, Debug, PartialEq, Eq)]
+pub struct Model {
+    pub state: State,
+    pub tally: Tally,
+}
+
+impl Model {
+    /// Performs one call, and counts it.
+    pub fn perform(&mut self, lengths: Lengths, order: &Order, request: Request) -> Answer {
+        let starting = request.code == code::START;
+        let fit = self.fit(lengths, order, starting);
+        let answer = match fit {
+            Ok(()) if request.code == code::SPREAD => {
+                Answer { verdict: Verdict::Granted as u8, rounds: self.state.spread() }
+            }
+            Ok(()) => answer(self.dispatch(order, request)),
+            Err(refusal) => answer(Err(refusal)),
+        };
+        self.count(answer.verdict);
+        answer
+    }
+
+    /// The marked numbers; it counts nowhere.
+    pub fn report(&self, lengths: Lengths, order: &Order) -> Report {
+        let refused = |verdict: Verdict| Report { words: [0; 2], ones: 0, verdict: verdict as u8 };
+        match self.fit(lengths, order, false) {
+            Ok(()) => self.state.report(),
+            Err(refusal) => refused(refusal),
+        }
+    }
+
+    /// Verdicts 2 and 3. A start does not look at the bytes.
+    fn fit(&self, lengths: Lengths, order: &Order, starting: bool) -> Result<(), Verdict> {
+        let state = lengths == Lengths::RIGHT && (starting || self.state.is_sound(order));
+        require(state, Verdict::State)?;
+        require(passes(order), Verdict::Order)
+    }
+
+    fn dispatch(&mut self, order: &Order, request: Request) -> Outcome {
+        let Request { code, a, b, c, d, e } = request;
+        let state = &mut self.state;
+        let mut event = Event { state, order };
+        match code {
+            code::START => event.start(),
+            code::READ => event.read(a, b, c),
+            code::WRITE => event.write(a, b, c),
+            code::EXECUTE => event.execute(a, b, c, d, e),
+            code::CREATE => event.create(a, b, c, d, e),
+            code::CREATE_ROOT => event.create_root(a, b, c, d),
+            code::MOVE => event.move_object(a, b, c, d, e),
+            code::DELETE => event.delete(a, b, c, d),
+            code::CALL => event.call(a, b),
+            code::INVOKE => event.invoke(a, b),
+            code::PASS => event.pass(a, b, c),
+            code::POST => event.post(a, b, c),
+            code::FIND => event.find(a, b, c),
+            code::MARK => event.state.mark_from_outside(a),
+            code::STEP => event.state.step(a),
+            _ => Err(Verdict::Number),
+        }
+    }
+
+    fn count(&mut self, verdict: u8) {
+        let count = match verdict {
+            0 => &mut self.tally.granted,
+            1 => &mut self.tally.slipped,
+            _ => &mut self.tally.refused,
+        };
+        *count = count.saturating_add(1);
+    }
+}
+
+/// The answer of a call that is no granted spread: no rounds.
+fn answer(outcome: Outcome) -> Answer {
+    let (Ok(verdict) | Err(verdict)) = outcome;
+    Answer { verdict: verdict as u8, rounds: 0 }
+}
+
+fn require(holds: bool, otherwise: Verdict) -> Result<(), Verdict> {
+    if holds { Ok(()) } else { Err(otherwise) }
+}

@@ -1,0 +1,179 @@
+//! How often each call gave each verdict, and which pairs cannot occur.
+
+use std::fmt;
+
+use tupehiwo::ffi::code;
+
+/// The rows of the table: the codes, then what is no code.
+pub const UNKNOWN: usize = 16;
+pub const REPORT: usize = 17;
+
+const CALLS: [&str; 18] = [
+    "start",
+    "read",
+    "write",
+    "execute",
+    "create",
+    "root",
+    "move",
+    "delete",
+    "call",
+    "invoke",
+    "pass",
+    "post",
+    "find",
+    "mark",
+    "step",
+    "spread",
+    "(unknown)",
+    "report",
+];
+
+const VERDICTS: [&str; 14] = [
+    "granted", "slipped", "state", "order", "number", "taken", "driver", "place", "held", "scale",
+    "path", "rule", "filled", "still",
+];
+
+/// Which calls can give a verdict, and why no other can.
+struct Possible {
+    verdict: usize,
+    calls: &'static [u16],
+    why_no_other: &'static str,
+}
+
+const UNKNOWN_CODE: u16 = UNKNOWN as u16;
+
+/// The verdicts that not every call can give; 2 and 3 every call can.
+const POSSIBLE: [Possible; 12] = [
+    Possible {
+        verdict: 0,
+        calls: &[0, 1, 2, 3, 4, 5, 6, 7, 8, 9, 10, 11, 12, 13, 14, 15, REPORT as u16],
+        why_no_other: "an unknown code is an unfit number",
+    },
+    Possible {
+        verdict: 1,
+        calls: &[code::READ, code::WRITE, code::MOVE],
+        why_no_other: "it has no test that only an honest driver enforces",
+    },
+    Possible {
+        verdict: 4,
+        calls: &[1, 2, 3, 4, 5, 6, 7, 8, 9, 10, 11, 12, 13, 14, UNKNOWN_CODE],
+        why_no_other: "it names no number",
+    },
+    Possible {
+        verdict: 5,
+        calls: &[code::EXECUTE, code::CREATE, code::CREATE_ROOT],
+        why_no_other: "it names no new number",
+    },
+    Possible {
+        verdict: 6,
+        calls: &[code::READ, code::WRITE, code::MOVE, code::DELETE],
+        why_no_other: "it does not name a driver with an existing object",
+    },
+    Possible {
+        verdict: 7,
+        calls: &[code::MOVE, code::DELETE, code::PASS, code::POST, code::FIND],
+        why_no_other: "it takes nothing out of a container, and its things may be equal",
+    },
+    Possible {
+        verdict: 8,
+        calls: &[code::CREATE, code::MOVE, code::DELETE, code::PASS, code::POST, code::FIND],
+        why_no_other: "it needs no recorded access or flow",
+    },
+    Possible {
+        verdict: 9,
+        calls: &[code::EXECUTE, code::CREATE, code::CREATE_ROOT],
+        why_no_other: "it is given no level",
+    },
+    Possible { verdict: 10, calls: &[code::READ, code::CALL], why_no_other: "it has no path test" },
+    Possible {
+        verdict: 11,
+        calls: &[
+            code::READ,
+            code::WRITE,
+            code::EXECUTE,
+            code::CREATE,
+            code::CREATE_ROOT,
+            code::MOVE,
+            code::DELETE,
+            code::INVOKE,
+            code::PASS,
+            code::POST,
+        ],
+        why_no_other: "it has no level test but the path test, if any",
+    },
+    Possible { verdict: 12, calls: &[code::DELETE], why_no_other: "it deletes no container" },
+    Possible { verdict: 13, calls: &[code::STEP], why_no_other: "it is no step" },
+];
+
+/// Why a call cannot give a verdict, or `None` if it can.
+fn impossible(call: usize, verdict: usize) -> Option<&'static str> {
+    let limited = POSSIBLE.iter().find(|possible| possible.verdict == verdict)?;
+    let can = limited.calls.iter().any(|&code| usize::from(code) == call);
+    (!can).then_some(limited.why_no_other)
+}
+
+#[derive(Clone)]
+pub struct Table([[u64; VERDICTS.len()]; CALLS.len()]);
+
+impl Default for Table {
+    fn default() -> Table {
+        Table([[0; VERDICTS.len()]; CALLS.len()])
+    }
+}
+
+impl Table {
+    pub fn count_call(&mut self, code: u16, verdict: u8) {
+        let call = usize::from(code).min(UNKNOWN);
+        self.0[call][usize::from(verdict)] += 1;
+    }
+
+    pub fn count_report(&mut self, verdict: u8) {
+        self.0[REPORT][usize::from(verdict)] += 1;
+    }
+
+    /// Calls counted, reports left out.
+    pub fn calls(&self) -> u64 {
+        self.0[..REPORT].iter().flatten().sum()
+    }
+
+    pub fn add(&mut self, other: &Table) {
+        for (mine, theirs) in self.0.iter_mut().flatten().zip(other.0.iter().flatten()) {
+            *mine += theirs;
+        }
+    }
+
+    /// Panics unless each pair that can occur did, and no other.
+    pub fn must_be_complete(&self) {
+        let mut faults = Vec::new();
+        for (call, row) in self.0.iter().enumerate() {
+            for (verdict, &count) in row.iter().enumerate() {
+                let pair = format!("{} {}", CALLS[call], VERDICTS[verdict]);
+                match impossible(call, verdict) {
+                    None if count == 0 => faults.push(format!("{pair}: never occurred")),
+                    Some(why) if count > 0 => faults.push(format!("{pair}: occurred, but {why}")),
+                    _ => {}
+                }
+            }
+        }
+        assert!(faults.is_empty(), "the table of calls and verdicts:\n{}", faults.join("\n"));
+    }
+}
+
+impl fmt::Display for Table {
+    /// A dash stands where the pair cannot occur.
+    fn fmt(&self, f: &mut fmt::Formatter<'_>) -> fmt::Result {
+        write!(f, "{:>10}", "")?;
+        VERDICTS.iter().try_for_each(|verdict| write!(f, "{verdict:>8}"))?;
+        for (call, row) in self.0.iter().enumerate() {
+            write!(f, "\n{:>10}", CALLS[call])?;
+            for (verdict, count) in row.iter().enumerate() {
+                match impossible(call, verdict) {
+                    Some(_) if *count == 0 => write!(f, "{:>8}", "-")?,
+                    _ => write!(f, "{count:>8}")?,
+                }
+            }
+        }
+        Ok(())
+    }
+}

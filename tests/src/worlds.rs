@@ -1,0 +1,149 @@
+//! Random orders and random memory.
+
+use crate::model::{Lengths, Mark, Number, Object, Pairs, State, THINGS, Task, Thing, passes};
+use crate::rng::Rng;
+use tupehiwo::ffi::{Order, Tally};
+
+/// The paper's order Q: a diamond with 0 lowest and 3 the top.
+pub const Q: Order = Order::new(3, [15, 10, 12, 8]);
+
+/// An order that passes, of any count and shape.
+pub fn order(rng: &mut Rng) -> Order {
+    if rng.once_in(3) {
+        return Q;
+    }
+    let count = 1 + rng.below(16);
+    let sparse = 1 + rng.below(4);
+    // Levels in a random row, the top last: each may be below any later one.
+    let mut row: Vec<usize> = (0..count).collect();
+    for i in (1..count).rev() {
+        row.swap(i, rng.below(i + 1));
+    }
+    let top = row[count - 1];
+    let mut rows = [0u16; 16];
+    for i in (0..count).rev() {
+        rows[row[i]] = 1 << row[i] | 1 << top;
+        for j in i + 1..count {
+            if rng.once_in(sparse) {
+                rows[row[i]] |= rows[row[j]];
+            }
+        }
+    }
+    Order { rows, count: count as u16, top: top as u16 }
+}
+
+/// An order that is near to a given one, or far from any: it may fail or pass.
+pub fn other_order(rng: &mut Rng, near: Order) -> Order {
+    let mut other = near;
+    match rng.below(8) {
+        0 => other = order(rng),
+        1 => other = Order::default(),
+        2 => other.count = rng.pick(&[0, near.count + 1, near.count - 1, 16, 17, 200, 65535]),
+        3 => other.top = rng.pick(&[0, near.count, near.count - 1, 15, 16, 65535]),
+        4 => other.rows.fill_with(|| rng.next() as u16),
+        _ => {
+            let rows = if rng.once_in(4) { 16 } else { near.count.into() };
+            let row = rng.below(rows);
+            other.rows[row] ^= 1 << rng.below(16);
+        }
+    }
+    other
+}
+
+/// An order that fails.
+pub fn failing_order(rng: &mut Rng, near: Order) -> Order {
+    loop {
+        let other = other_order(rng, near);
+        if !passes(&other) {
+            return other;
+        }
+    }
+}
+
+/// The right lengths, and once in a hundred wrong ones.
+pub fn lengths(rng: &mut Rng) -> Lengths {
+    let mut lengths = Lengths::RIGHT;
+    match rng.below(200) {
+        0 => lengths.bytes = rng.pick(&[0, 8, 1016, 1023, 1025]),
+        1 => lengths.words = rng.pick(&[0, 2, 512, 767, 769]),
+        _ => {}
+    }
+    lengths
+}
+
+/// Counts near to their stop half of the time, each by itself.
+pub fn tally(rng: &mut Rng) -> Tally {
+    let mut count = || match rng.below(4) {
+        0 => u32::MAX - rng.below(4) as u32,
+        1 => u32::MAX - rng.below(1000) as u32,
+        _ => rng.below(1000) as u32,
+    };
+    Tally { granted: count(), slipped: count(), refused: count() }
+}
+
+/// Sound memory under an order, which calls need not reach: any levels, drivers,
+/// containers and marks, any words.
+pub fn sound_state(rng: &mut Rng, order: &Order) -> State {
+    let mut state = State::started(order.top);
+    let (used, tasks) = (1 + rng.below(10), 1 + rng.below(9));
+    let mut numbers = [0; 2].map(|_| Vec::new());
+    for n in 1..THINGS as Number {
+        if rng.below(10) < used || n == 127 {
+            numbers[usize::from(rng.below(10) < tasks)].push(n);
+        }
+    }
+    let [objects, mut tasks] = numbers;
+    for &n in &tasks {
+        let task = random_task(rng, order.count);
+        state.put(n, Thing::Task(task));
+    }
+    let core = Task { level: order.top, ..random_task(rng, order.count) };
+    state.put(0, Thing::Task(core));
+    tasks.push(0);
+    for &n in &objects {
+        let within = rng.pick(&objects);
+        let object = Object {
+            level: rng.below(order.count.into()) as u16,
+            driver: rng.pick(&tasks),
+            container: (within != n && !rng.once_in(4)).then_some(within),
+            marked: rng.once_in(3),
+        };
+        state.put(n, Thing::Object(object));
+    }
+    scatter_words(rng, &mut state);
+    state
+}
+
+fn random_task(rng: &mut Rng, count: u16) -> Task {
+    Task {
+        level: rng.below(count.into()) as u16,
+        read_level: rng.below(count.into()) as u16,
+        mark: rng.pick(&[Mark::Unmarked, Mark::Unmarked, Mark::Marked, Mark::Outside]),
+    }
+}
+
+/// Flows and accesses, mostly few: half of them join things in use, the rest any
+/// numbers, free ones too.
+fn scatter_words(rng: &mut Rng, state: &mut State) {
+    let all: Vec<Number> = (0..THINGS as Number).collect();
+    let tasks: Vec<Number> = state.tasks().collect();
+    let objects: Vec<Number> = state.objects().map(|(n, _)| n).collect();
+    let used: Vec<Number> = state.used().map(|(n, _)| n).collect();
+    scatter(rng, &mut state.flows, [&used, &used, &all]);
+    scatter(rng, &mut state.reads, [&tasks, &objects, &all]);
+    scatter(rng, &mut state.writes, [&tasks, &objects, &all]);
+}
+
+/// Pairs of sources and ends, or of any numbers.
+fn scatter(rng: &mut Rng, pairs: &mut Pairs, [sources, ends, all]: [&[Number]; 3]) {
+    let count = match rng.below(20) {
+        0 => 0,
+        1 => 20_000,
+        _ => rng.below(3000),
+    };
+    for _ in 0..count {
+        let fit = !ends.is_empty() && rng.once_in(2);
+        let (sources, ends) = if fit { (sources, ends) } else { (all, all) };
+        pairs.insert((rng.pick(sources), rng.pick(ends)));
+    }
+}

@@ -1,0 +1,107 @@
+//! The safe Rust face: each method makes the call that it names.
+
+use tupehiwo::ffi::{Order, Request, code};
+use tupehiwo::{Answer, Monitor, Verdict};
+use tupehiwo_tests::author::Author;
+use tupehiwo_tests::model::{BYTES, Lengths, Model, State, WORDS};
+use tupehiwo_tests::rng::{Rng, seed};
+use tupehiwo_tests::worlds;
+
+/// The method of a request.
+fn by_method(monitor: &mut Monitor, order: Order, request: Request) -> Answer {
+    let Request { code, a, b, c, d, e } = request;
+    let verdict = match code {
+        code::START => monitor.start(order),
+        code::READ => monitor.read(a, b, c),
+        code::WRITE => monitor.write(a, b, c),
+        code::EXECUTE => monitor.execute(a, b, c, d, e),
+        code::CREATE => monitor.create(a, b, c, d, e),
+        code::CREATE_ROOT => monitor.create_root(a, b, c, d),
+        code::MOVE => monitor.move_object(a, b, c, d, e),
+        code::DELETE => monitor.delete(a, b, c, d),
+        code::CALL => monitor.call(a, b),
+        code::INVOKE => monitor.invoke(a, b),
+        code::PASS => monitor.pass(a, b, c),
+        code::POST => monitor.post(a, b, c),
+        code::FIND => monitor.find(a, b, c),
+        code::MARK => monitor.mark(a),
+        code::STEP => monitor.step(a),
+        code::SPREAD => return monitor.spread(),
+        unknown => panic!("no method has the code {unknown}"),
+    };
+    Answer { verdict, rounds: 0 }
+}
+
+/// The monitor's memory must be that of the model, and its report the model's.
+fn must_agree(monitor: &Monitor, model: &Model, order: &Order) {
+    let (mut bytes, mut words) = ([0; BYTES], [0; WORDS]);
+    model.state.write(&mut bytes, &mut words);
+    assert!(*monitor.bytes() == bytes && *monitor.words() == words);
+    assert_eq!(monitor.tally(), model.tally);
+    assert_eq!(monitor.order(), *order);
+    let (report, expected) = (monitor.report(), model.report(Lengths::RIGHT, order));
+    assert_eq!(report.verdict() as u8, expected.verdict);
+    assert_eq!((report.words(), report.ones()), (expected.words, expected.ones));
+    let marked = model.state.used().filter(|(_, thing)| thing.is_marked());
+    let marked = marked.map(|(n, _)| n).filter(|_| expected.verdict == 0);
+    assert!(report.marked().eq(marked));
+}
+
+#[test]
+fn each_method_makes_its_call() {
+    let first = seed("each_method_makes_its_call");
+    let pool: Vec<u16> = (1..20).chain(120..128).collect();
+    for number in 0..40 {
+        let mut rng = Rng::new(first.wrapping_add(number));
+        let mut monitor = Monitor::new();
+        let mut order = Order::default();
+        let state = State::read(monitor.bytes(), monitor.words());
+        let mut model = Model { state, tally: monitor.tally() };
+        for call in 0..600 {
+            let mut author =
+                Author { rng: &mut rng, state: &model.state, order: &order, pool: &pool };
+            // Some calls come before the first start, then one, then any.
+            let request = if call == 5 { Request::default() } else { author.request() };
+            if request.code > code::SPREAD {
+                continue;
+            }
+            let next = if call == 5 { worlds::Q } else { worlds::other_order(&mut rng, worlds::Q) };
+            let lent = if request.code == code::START { next } else { order };
+            let answer = by_method(&mut monitor, next, request);
+            let expected = model.perform(Lengths::RIGHT, &lent, request);
+            let (verdict, rounds) = (answer.verdict as u8, answer.rounds);
+            assert_eq!((verdict, rounds), (expected.verdict, expected.rounds), "{request:?}");
+            if request.code == code::START && answer.verdict == Verdict::Granted {
+                order = next;
+            }
+            must_agree(&monitor, &model, &order);
+        }
+    }
+}
+
+#[test]
+fn memory_can_be_handed_on() {
+    let mut first = Monitor::new();
+    assert_eq!(first.start(worlds::Q), Verdict::Granted);
+    assert_eq!(first.create_root(0, 0, 9, 2), Verdict::Granted);
+    let mut second =
+        Monitor::from_memory(*first.bytes(), *first.words(), first.tally(), first.order());
+    assert_eq!(first.mark(0), second.mark(0));
+    assert_eq!(first, second);
+    assert!(second.report().marked().eq([0, 9]));
+}
+
+#[test]
+fn verdicts_have_their_numbers_and_words() {
+    let words = [
+        "granted", "slipped", "state", "order", "number", "taken", "driver", "place", "held",
+        "scale", "path", "rule", "filled", "still",
+    ];
+    for (number, word) in (0..).zip(words) {
+        let verdict = Verdict::from_number(number).expect("a verdict of the table");
+        assert_eq!((verdict as u8, verdict.word()), (number, word));
+        assert_eq!(verdict.to_string(), word);
+        assert_eq!(verdict.is_done(), number < 2);
+    }
+    assert_eq!(Verdict::from_number(14), None);
+}

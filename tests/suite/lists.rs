@@ -1,0 +1,206 @@
+//! Long random lists of calls, the library and the model held equal after each.
+
+use std::collections::BTreeSet;
+
+use tupehiwo::ffi::{Order, Request, code};
+use tupehiwo_tests::author::Author;
+use tupehiwo_tests::compare::Pair;
+use tupehiwo_tests::model::{Lengths, Model, Number, State, at_or_below};
+use tupehiwo_tests::rng::{Rng, seed};
+use tupehiwo_tests::table::Table;
+use tupehiwo_tests::worlds;
+
+const LISTS: u64 = 1200;
+const CALLS_OF_A_LIST: usize = 900;
+const MEMORIES: u64 = 8000;
+const CALLS_ON_A_MEMORY: usize = 12;
+
+/// A list that begins with a granted start, and what it must be judged by.
+struct List {
+    rng: Rng,
+    pair: Pair,
+    /// That of the last granted start.
+    order: Order,
+    /// The tasks that a granted mark named since that start.
+    outside: BTreeSet<Number>,
+    pool: Vec<Number>,
+}
+
+impl List {
+    fn begin(seed: u64) -> List {
+        let mut rng = Rng::new(seed);
+        let order = worlds::order(&mut rng);
+        let mut pair = Pair::new(format!("list of TUPEHIWO_SEED={seed}"));
+        pair.set_tally(worlds::tally(&mut rng));
+        if rng.once_in(2) {
+            pair.set_state(worlds::sound_state(&mut rng, &order));
+            pair.set_byte(rng.below(1024), rng.next() as u8);
+        }
+        let pool = pool(&mut rng);
+        let mut list = List { rng, pair, order, outside: BTreeSet::new(), pool };
+        list.perform(Lengths::RIGHT, order, Request::default());
+        list
+    }
+
+    fn one_call(&mut self) {
+        let mut author = Author {
+            rng: &mut self.rng,
+            state: &self.pair.model.state,
+            order: &self.order,
+            pool: &self.pool,
+        };
+        let request = author.request();
+        let order = self.order_for(request);
+        let lengths = worlds::lengths(&mut self.rng);
+        self.perform(lengths, order, request);
+    }
+
+    fn perform(&mut self, lengths: Lengths, order: Order, request: Request) {
+        let granted = self.pair.perform_with(lengths, order, request).verdict == 0;
+        if granted && request.code == code::START {
+            self.order = order;
+            self.outside.clear();
+        }
+        if granted && request.code == code::MARK {
+            self.outside.insert(request.a);
+        }
+    }
+
+    /// Starts may have any order, others only where it makes no difference to the
+    /// list: a call performed under another order would leave the lists of the paper.
+    fn order_for(&mut self, request: Request) -> Order {
+        let starting = request.code == code::START;
+        let wanted = self.rng.once_in(if starting { 2 } else { 25 });
+        let other = worlds::other_order(&mut self.rng, self.order);
+        let model = &self.pair.model;
+        if wanted && (starting || is_refused(model, &other, request)) { other } else { self.order }
+    }
+
+    /// The two limits on levels, which every state of a list keeps.
+    fn must_keep_the_limits(&self) {
+        let state = &self.pair.model.state;
+        let level = |n: Number| state.thing(n).ok().and_then(|thing| thing.level());
+        let below = |a: u16, b: u16| at_or_below(&self.order, a, b);
+        let covered = |l: u16| self.outside.iter().any(|&e| level(e).is_some_and(|t| below(l, t)));
+        for (n, thing) in state.used().filter(|(_, thing)| thing.is_marked()) {
+            let contained = thing.level().is_some_and(covered);
+            assert!(contained, "{n} is marked above every task marked from outside: {thing:?}");
+        }
+        for &(from, to) in &state.flows {
+            let (Some(source), Some(end)) = (level(from), level(to)) else {
+                panic!("the flow {from} to {to} joins no two things in use");
+            };
+            assert!(below(end, source) || covered(end), "the flow {from} to {to} rises");
+        }
+    }
+}
+
+/// The numbers that new things get: few for dense worlds, or all of them.
+fn pool(rng: &mut Rng) -> Vec<Number> {
+    let mut numbers: Vec<Number> = (1..128).collect();
+    for i in (1..numbers.len()).rev() {
+        numbers.swap(i, rng.below(i + 1));
+    }
+    numbers.truncate(rng.pick(&[4, 7, 10, 16, 30, 127]));
+    numbers
+}
+
+fn is_refused(model: &Model, order: &Order, request: Request) -> bool {
+    let verdict = model.clone().perform(Lengths::RIGHT, order, request).verdict;
+    verdict > 1
+}
+
+#[test]
+fn lists_from_a_start() {
+    let first = seed("lists_from_a_start");
+    let mut table = Table::default();
+    for number in 0..LISTS {
+        let mut list = List::begin(first.wrapping_add(number));
+        for call in 1..=CALLS_OF_A_LIST {
+            list.one_call();
+            if call % 100 == 0 {
+                list.must_keep_the_limits();
+            }
+        }
+        table.add(&list.pair.table);
+    }
+    println!("{} calls in lists from a start\n{table}", table.calls());
+    assert!(table.calls() > 1_000_000);
+    table.must_be_complete();
+}
+
+#[test]
+fn calls_on_any_memory() {
+    let first = seed("calls_on_any_memory");
+    let pool: Vec<Number> = (0..128).collect();
+    let mut table = Table::default();
+    for number in 0..MEMORIES {
+        let seed = first.wrapping_add(number);
+        let mut rng = Rng::new(seed);
+        let mut pair = Pair::new(format!("memory of TUPEHIWO_SEED={seed}"));
+        let usual = worlds::order(&mut rng);
+        pair.set_state(worlds::sound_state(&mut rng, &usual));
+        pair.set_tally(worlds::tally(&mut rng));
+        for _ in 0..CALLS_ON_A_MEMORY {
+            if rng.once_in(40) {
+                let value = rng.pick(&[0, 1, 2, 3, 4, 127, 128, 255]);
+                pair.set_byte(rng.below(1024), value);
+            }
+            let order = match rng.below(6) {
+                0 => worlds::other_order(&mut rng, usual),
+                _ => usual,
+            };
+            let starting = rng.once_in(30);
+            let mut author =
+                Author { rng: &mut rng, state: &pair.model.state, order: &order, pool: &pool };
+            let request = match starting {
+                true => author.request_of(code::START),
+                false => author.request(),
+            };
+            pair.perform_with(worlds::lengths(&mut rng), order, request);
+        }
+        table.add(&pair.table);
+    }
+    println!("{} calls on any memory\n{table}", table.calls());
+    table.must_be_complete();
+}
+
+/// What chains reach, by a search that knows no rounds.
+fn reached_by_chains(state: &State) -> BTreeSet<Number> {
+    let mut reached = BTreeSet::new();
+    let marked = state.used().filter(|(_, thing)| thing.is_marked());
+    let mut open: Vec<Number> = marked.map(|(n, _)| n).collect();
+    while let Some(link) = open.pop() {
+        if !reached.insert(link) {
+            continue;
+        }
+        let fed = state.flows.range((link, 0)..=(link, 127)).map(|&(_, to)| to);
+        open.extend(fed.filter(|&to| state.thing(to).is_ok()));
+        let driven = state.objects().filter(|(_, object)| object.driver == link);
+        open.extend(driven.map(|(n, _)| n));
+    }
+    reached
+}
+
+#[test]
+fn a_spread_marks_what_chains_reach() {
+    let mut rng = Rng::new(seed("a_spread_marks_what_chains_reach"));
+    let spread = Request { code: code::SPREAD, ..Request::default() };
+    for number in 0..2000 {
+        let order = worlds::order(&mut rng);
+        let mut state = worlds::sound_state(&mut rng, &order);
+        // Few flows, so that much stays out of reach.
+        let few = rng.below(200);
+        state.flows = state.flows.into_iter().filter(|_| rng.below(3000) < few).collect();
+        let reached = reached_by_chains(&state);
+        let mut pair = Pair::new(format!("spread {number}"));
+        pair.set_state(state);
+        assert_eq!(pair.perform(order, spread).verdict, 0);
+        let report = pair.report_with(Lengths::RIGHT, order);
+        let is_marked = |&n: &Number| report.words[usize::from(n) / 64] >> (n % 64) & 1 == 1;
+        let marked: BTreeSet<Number> = (0..128).filter(is_marked).collect();
+        assert_eq!(marked, reached, "spread {number}");
+        let again = pair.perform(order, spread);
+        assert_eq!(again.rounds, 0, "a spread straight after a spread");
+    }
+}

@@ -1,0 +1,230 @@
+//! The paper's trials by name, and the longest spreads.
+
+use tupehiwo::ffi::{Order, Request, code};
+use tupehiwo_tests::compare::Pair;
+use tupehiwo_tests::worlds::Q;
+
+const GRANTED: u8 = 0;
+const SLIPPED: u8 = 1;
+const ORDER: u8 = 3;
+const NUMBER: u8 = 4;
+const PATH: u8 = 10;
+const RULE: u8 = 11;
+
+/// The library and the model under one order.
+struct Trial {
+    pair: Pair,
+    order: Order,
+}
+
+impl Trial {
+    fn new(order: Order) -> Trial {
+        Trial { pair: Pair::started("trial", order), order }
+    }
+
+    fn ask(&mut self, code: u16, arguments: &[u16]) -> u8 {
+        let mut all = [0; 5];
+        all[..arguments.len()].copy_from_slice(arguments);
+        let [a, b, c, d, e] = all;
+        self.pair.perform(self.order, Request { code, a, b, c, d, e }).verdict
+    }
+
+    fn grant(&mut self, code: u16, arguments: &[u16]) {
+        assert_eq!(self.ask(code, arguments), GRANTED, "code {code} of {arguments:?}");
+    }
+
+    fn spread(&mut self) -> u8 {
+        let request = Request { code: code::SPREAD, ..Request::default() };
+        let answer = self.pair.perform(self.order, request);
+        assert_eq!(answer.verdict, GRANTED);
+        answer.rounds
+    }
+
+    fn marked(&self) -> Vec<u16> {
+        (0..128).filter(|&n| self.pair.byte(8 * usize::from(n) + 5) != 0).collect()
+    }
+}
+
+fn verdict_of_start(order: Order) -> u8 {
+    let mut pair = Pair::new("start");
+    pair.perform(order, Request::default()).verdict
+}
+
+#[test]
+fn p1_order_q_passes() {
+    assert_eq!(verdict_of_start(Q), GRANTED);
+}
+
+#[test]
+fn p2_one_level_passes() {
+    assert_eq!(verdict_of_start(Order::new(0, [1])), GRANTED);
+}
+
+#[test]
+fn p3_seventeen_levels_fail() {
+    assert_eq!(verdict_of_start(Order { count: 17, ..Q }), ORDER);
+}
+
+#[test]
+fn p4_two_levels_below_each_other_fail() {
+    assert_eq!(verdict_of_start(Order::new(1, [3, 3])), ORDER);
+}
+
+#[test]
+fn p5_levels_that_are_not_transitive_fail() {
+    assert_eq!(verdict_of_start(Order::new(3, [11, 14, 12, 8])), ORDER);
+}
+
+const TASK: u16 = 1;
+const DRIVER: u16 = 2;
+const OBJECT: u16 = 20;
+
+/// Under Q: the task at 1, the object at 2, its driver at a level, none marked.
+fn reading(read_level: u16, driver_level: u16) -> Trial {
+    let mut trial = Trial::new(Q);
+    trial.grant(code::CREATE_ROOT, &[0, 0, 10, 3]);
+    trial.grant(code::EXECUTE, &[0, 10, TASK, 1, read_level]);
+    trial.grant(code::EXECUTE, &[0, 10, DRIVER, driver_level, driver_level]);
+    trial.grant(code::CREATE_ROOT, &[0, DRIVER, OBJECT, 2]);
+    trial
+}
+
+#[test]
+fn p6_a_read_by_the_read_level_gives_no_flow() {
+    let mut trial = reading(0, 3);
+    assert_eq!(trial.ask(code::READ, &[TASK, DRIVER, OBJECT]), GRANTED);
+    assert_eq!(trial.pair.flows(), 0);
+}
+
+#[test]
+fn p7_an_honest_driver_refuses() {
+    let mut trial = reading(1, 3);
+    assert_eq!(trial.ask(code::READ, &[TASK, DRIVER, OBJECT]), RULE);
+    assert_eq!(trial.pair.flows(), 0);
+}
+
+#[test]
+fn p8_a_marked_driver_lets_it_slip_with_two_flows() {
+    let mut trial = reading(1, 3);
+    trial.grant(code::MARK, &[DRIVER]);
+    assert_eq!(trial.ask(code::READ, &[TASK, DRIVER, OBJECT]), SLIPPED);
+    assert_eq!(trial.pair.flows(), 2);
+    assert!(trial.pair.has_flow(OBJECT, TASK));
+    assert!(trial.pair.has_flow(DRIVER, TASK));
+}
+
+#[test]
+fn p9_a_marked_driver_does_not_escape_the_path_test() {
+    let mut trial = reading(1, 2);
+    trial.grant(code::MARK, &[DRIVER]);
+    assert_eq!(trial.ask(code::READ, &[TASK, DRIVER, OBJECT]), PATH);
+    assert_eq!(trial.pair.flows(), 0);
+}
+
+#[test]
+fn p10_an_invoke_between_unrelated_levels_is_refused() {
+    let mut trial = reading(1, 2);
+    assert_eq!(trial.ask(code::INVOKE, &[TASK, DRIVER]), RULE);
+}
+
+#[test]
+fn number_127_is_fit_and_128_is_not() {
+    let mut trial = Trial::new(Q);
+    assert_eq!(trial.ask(code::CREATE_ROOT, &[0, 0, 128, 0]), NUMBER);
+    assert_eq!(trial.ask(code::CREATE_ROOT, &[0, 0, 127, 0]), GRANTED);
+    assert_eq!(trial.ask(code::WRITE, &[0, 0, 127]), GRANTED);
+    assert!(trial.pair.has_flow(0, 127));
+}
+
+#[test]
+fn a_task_calling_itself_feeds_itself() {
+    let mut trial = Trial::new(Q);
+    assert_eq!(trial.ask(code::CALL, &[0, 0]), GRANTED);
+    assert_eq!(trial.pair.flows(), 1);
+    assert!(trial.pair.has_flow(0, 0));
+}
+
+#[test]
+fn a_number_given_out_again_keeps_no_flow() {
+    let mut trial = Trial::new(Q);
+    let (container, scratch) = (10, 70);
+    trial.grant(code::CREATE_ROOT, &[0, 0, container, 3]);
+    trial.grant(code::WRITE, &[0, 0, container]);
+    trial.grant(code::CREATE, &[0, 0, scratch, container, 3]);
+    trial.grant(code::WRITE, &[0, 0, scratch]);
+    trial.grant(code::READ, &[0, 0, scratch]);
+    assert!(trial.pair.has_flow(0, scratch) && trial.pair.has_flow(scratch, 0));
+    trial.grant(code::DELETE, &[0, 0, scratch, container]);
+    trial.grant(code::CREATE, &[0, 0, scratch, container, 3]);
+    assert!(!trial.pair.has_flow(0, scratch) && !trial.pair.has_flow(scratch, 0));
+    // The accesses are gone too: nothing may be created in it.
+    trial.grant(code::CREATE_ROOT, &[0, 0, 11, 3]);
+    assert_eq!(trial.ask(code::CREATE, &[0, 0, 12, scratch, 3]), 8);
+}
+
+/// Tasks 2 to 127 of one level, each invoking the next; 1 is the core's image.
+fn chain_of_tasks() -> Trial {
+    let mut trial = Trial::new(Order::new(0, [1]));
+    trial.grant(code::CREATE_ROOT, &[0, 0, 1, 0]);
+    for task in 2..128 {
+        trial.grant(code::EXECUTE, &[0, 1, task, 0, 0]);
+    }
+    for task in 2..127 {
+        trial.grant(code::INVOKE, &[task, task + 1]);
+    }
+    trial
+}
+
+#[test]
+fn a_chain_of_126_rounds() {
+    let mut trial = chain_of_tasks();
+    trial.grant(code::INVOKE, &[127, 0]);
+    trial.grant(code::MARK, &[2]);
+    // 125 tasks, then the core and with it its image.
+    assert_eq!(trial.spread(), 126);
+    assert_eq!(trial.marked(), (0..128).collect::<Vec<u16>>());
+    assert_eq!(trial.spread(), 0);
+}
+
+#[test]
+fn the_longest_chain_has_127_rounds() {
+    let mut trial = chain_of_tasks();
+    trial.grant(code::WRITE, &[127, 0, 1]);
+    trial.grant(code::READ, &[0, 0, 1]);
+    trial.grant(code::MARK, &[2]);
+    assert_eq!(trial.spread(), 127);
+    assert_eq!(trial.marked().len(), 128);
+}
+
+#[test]
+fn a_round_of_objects_alone_counts() {
+    let mut trial = Trial::new(Order::new(0, [1]));
+    trial.grant(code::CREATE_ROOT, &[0, 0, 1, 0]);
+    // A marked driver with an unmarked object: no list of calls leaves this.
+    trial.pair.set_byte(5, 1);
+    assert_eq!(trial.marked(), [0]);
+    assert_eq!(trial.spread(), 1);
+    assert_eq!(trial.marked(), [0, 1]);
+}
+
+#[test]
+fn a_step_goes_one_flow_far_and_takes_the_objects_along() {
+    let mut trial = chain_of_tasks();
+    trial.grant(code::INVOKE, &[3, 0]);
+    trial.grant(code::MARK, &[2]);
+    assert_eq!(trial.ask(code::STEP, &[0]), 13);
+    assert_eq!(trial.ask(code::STEP, &[2]), 13);
+    trial.grant(code::STEP, &[3]);
+    trial.grant(code::STEP, &[0]);
+    assert_eq!(trial.marked(), [0, 1, 2, 3]);
+}
+
+#[test]
+fn a_mark_repeated_changes_only_the_tally() {
+    let mut trial = reading(1, 3);
+    trial.grant(code::MARK, &[DRIVER]);
+    let before = trial.pair.model.clone();
+    trial.grant(code::MARK, &[DRIVER]);
+    assert_eq!(trial.pair.model.state, before.state);
+    assert_eq!(trial.pair.model.tally.granted, before.tally.granted + 1);
+}
