@@ -269,8 +269,8 @@ static uint8_t create(struct state *s, unsigned creator, unsigned driver, unsign
         (!root && !below(s, l, level(s, container))))
         return TUPEHIWO_RULE;
     int captured = marked(s, driver);
-    uint8_t record[RECORD] = {OBJECT, (uint8_t)l, 0, (uint8_t)driver, (uint8_t)container,
-                              captured ? MARKED : 0};
+    uint8_t record[RECORD] = {OBJECT,          (uint8_t)l,         0,
+                              (uint8_t)driver, (uint8_t)container, captured ? MARKED : 0};
     make(s, made, record);
     if (captured) {
         add(s, FLOWS, creator, made);
@@ -581,8 +581,8 @@ struct tupehiwo_report baseline_report(const uint8_t *bytes, size_t nbytes,
     if (report.verdict == TUPEHIWO_GRANTED) {
         struct set set = marked_set(bytes);
         memcpy(report.words, set.words, sizeof report.words);
-        report.ones = (uint32_t)(__builtin_popcountll(set.words[0]) +
-                                 __builtin_popcountll(set.words[1]));
+        report.ones =
+            (uint32_t)(__builtin_popcountll(set.words[0]) + __builtin_popcountll(set.words[1]));
     }
     return report;
 }

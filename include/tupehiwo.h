@@ -136,8 +136,8 @@ struct tupehiwo_monitor {
 
 /* Any call: what each of the functions below is made of. */
 static inline struct tupehiwo_answer tupehiwo_do(struct tupehiwo_monitor *m, uint16_t code,
-                                                 uint16_t a, uint16_t b, uint16_t c,
-                                                 uint16_t d, uint16_t e)
+                                                 uint16_t a, uint16_t b, uint16_t c, uint16_t d,
+                                                 uint16_t e)
 {
     struct tupehiwo_request request = {code, a, b, c, d, e};
     return tupehiwo_perform(m->bytes, TUPEHIWO_BYTES, m->words, TUPEHIWO_WORDS, &m->tally,
@@ -148,9 +148,8 @@ static inline struct tupehiwo_answer tupehiwo_do(struct tupehiwo_monitor *m, uin
 static inline uint8_t tupehiwo_start(struct tupehiwo_monitor *m, struct tupehiwo_order order)
 {
     struct tupehiwo_request request = {TUPEHIWO_CODE_START, 0, 0, 0, 0, 0};
-    struct tupehiwo_answer answer =
-        tupehiwo_perform(m->bytes, TUPEHIWO_BYTES, m->words, TUPEHIWO_WORDS, &m->tally, order,
-                         request);
+    struct tupehiwo_answer answer = tupehiwo_perform(m->bytes, TUPEHIWO_BYTES, m->words,
+                                                     TUPEHIWO_WORDS, &m->tally, order, request);
     if (answer.verdict == TUPEHIWO_GRANTED)
         m->order = order;
     return answer.verdict;
@@ -271,8 +270,8 @@ static inline struct tupehiwo_report tupehiwo_marked(const struct tupehiwo_monit
 /* The word for a verdict, as "granted"; "unknown" for a number that is none. */
 static inline const char *tupehiwo_word(uint8_t verdict)
 {
-    static const char *const words[] = {"granted", "slipped", "state", "order", "number",
-                                        "taken",   "driver",  "place", "held",  "scale",
+    static const char *const words[] = {"granted", "slipped", "state",  "order", "number",
+                                        "taken",   "driver",  "place",  "held",  "scale",
                                         "path",    "rule",    "filled", "still"};
     return verdict < sizeof words / sizeof words[0] ? words[verdict] : "unknown";
 }

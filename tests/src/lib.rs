@@ -2,13 +2,14 @@
 //! and the comparison of the library with that model.
 //!
 //! - [`model`]: what each call does, on sets and enums.
-//! - [`script`]: what the script program prints.
+//! - [`script`]: what the script program prints, and [`cases`]: inputs for it.
 //! - [`compare`]: the library and the model side by side, held equal after each call.
 //! - [`author`]: random calls that look at the state, so that each verdict occurs.
 //! - [`worlds`]: random orders and memories, reached from a start or not.
 //! - [`table`]: how often each call gave each verdict, and which pairs cannot occur.
 
 pub mod author;
+pub mod cases;
 pub mod compare;
 pub mod model;
 pub mod rng;

@@ -1,0 +1,58 @@
+/*
+ * Load a state, mark a captured task, spread the mark, read the list.
+ *
+ * An instrument has two levels, 0 for what came with a customer's module and 1
+ * for what the shop has checked. The file server (task 2) turns out to be
+ * captured: what may it have tainted?
+ */
+#include <stdio.h>
+
+#include "tupehiwo.h"
+
+enum { CUSTOMER = 0, SHOP = 1 };
+enum { CORE = 0, GAUGE = 1, FILE_SERVER = 2, IMAGE = 10, DOWNLOAD = 20, TABLE = 21 };
+
+static void say(const char *what, uint8_t verdict)
+{
+    printf("%-40s %2u %s\n", what, verdict, tupehiwo_word(verdict));
+}
+
+static void load(struct tupehiwo_monitor *m)
+{
+    struct tupehiwo_order order = {{3, 2}, 2, SHOP}; /* 0 is at or below 1, the top */
+    say("start", tupehiwo_start(m, order));
+    say("an image", tupehiwo_create_root(m, CORE, CORE, IMAGE, SHOP));
+    say("the gauge runs", tupehiwo_execute(m, CORE, IMAGE, GAUGE, SHOP, SHOP));
+    say("the file server runs", tupehiwo_execute(m, CORE, IMAGE, FILE_SERVER, SHOP, SHOP));
+    say("a download of the file server's",
+        tupehiwo_create_root(m, CORE, FILE_SERVER, DOWNLOAD, CUSTOMER));
+    say("a correction table", tupehiwo_create_root(m, CORE, CORE, TABLE, SHOP));
+}
+
+static void print_marked(const struct tupehiwo_monitor *m)
+{
+    struct tupehiwo_report report = tupehiwo_marked(m);
+    printf("%u marked:", (unsigned)report.ones);
+    for (uint16_t n = tupehiwo_next_marked(report, 0); n < TUPEHIWO_THINGS;
+         n = tupehiwo_next_marked(report, (uint16_t)(n + 1)))
+        printf(" %u", n);
+    printf("\n");
+}
+
+int main(void)
+{
+    static struct tupehiwo_monitor m; /* zeros, as a monitor begins */
+    load(&m);
+    say("the gauge reads the download", tupehiwo_read(&m, GAUGE, FILE_SERVER, DOWNLOAD));
+    say("the file server is marked", tupehiwo_mark(&m, FILE_SERVER));
+    say("the gauge reads the download", tupehiwo_read(&m, GAUGE, FILE_SERVER, DOWNLOAD));
+    say("the gauge writes the table", tupehiwo_write(&m, GAUGE, CORE, TABLE));
+
+    struct tupehiwo_answer answer = tupehiwo_spread(&m);
+    say("spread", answer.verdict);
+    printf("%u rounds\n", answer.rounds);
+    print_marked(&m);
+    printf("%u granted, %u slipped, %u refused\n", (unsigned)m.tally.granted,
+           (unsigned)m.tally.slipped, (unsigned)m.tally.refused);
+    return 0;
+}
