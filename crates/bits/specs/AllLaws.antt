@@ -6,6 +6,8 @@ use mathlib.Core.Bool.{Bool, true, false, not, _&&_, _||_, true≢false, false�
 use Prim.Native.Nat.{ℕ, zero, suc, _+_, _≤_, _<_}
 use native.Mathlib.Nat.{le-of-suc-le-suc, not-suc-le-zero, eq-or-lt-of-le, le-refl, le-trans, le-suc}
 use native.Mathlib.Numerals.{add-one}
+use lib.Dec.{eqb}
+use borrow.Author.Tests.{eqb-true, eq-eqb}
 use Rattle.bits.specs.All.{allB, anyB, upTo, _⇒_}
 
 -- ---- Bools
@@ -133,3 +135,29 @@ pub any-at : (n : ℕ) (p : ℕ → Bool) → anyB n p ≡ true → (i : ℕ) ×
 unfolding anyB
 any-at zero p e = absurd (false≢true e)
 any-at (suc n) p e = ⊎-elim (λ q. let r = any-at n p q in (r .0, le-trans (r .1) (le-suc n), r .2)) (λ q. (n, le-refl (suc n), q)) (or-cases (anyB n p) (p n) e)
+
+pub any-ext : (n : ℕ) (p q : ℕ → Bool) → ((i : ℕ) → i < n → p i ≡ q i) → anyB n p ≡ anyB n q
+any-ext n p q h =
+    both-ways _ _
+    (λ e. let a = any-at n p e in any-i n q (a .0) (a .1) (sym (h (a .0) (a .1)) ∙ a .2))
+    (λ e. let a = any-at n q e in any-i n p (a .0) (a .1) (h (a .0) (a .1) ∙ a .2))
+
+pub any-or : (n : ℕ) (p q : ℕ → Bool) → anyB n (λ i. p i || q i) ≡ (anyB n p || anyB n q)
+any-or n p q =
+    both-ways _ _
+    (λ e. let a = any-at n (λ i. p i || q i) e in
+    ⊎-elim (λ b. or-l (anyB n p) _ (any-i n p (a .0) (a .1) b)) (λ b. or-r (anyB n p) _ (any-i n q (a .0) (a .1) b)) (or-cases (p (a .0)) (q (a .0)) (a .2)))
+    (λ e. ⊎-elim
+    (λ b. let a = any-at n p b in any-i n (λ i. p i || q i) (a .0) (a .1) (or-l (p (a .0)) _ (a .2)))
+    (λ b. let a = any-at n q b in any-i n (λ i. p i || q i) (a .0) (a .1) (or-r (p (a .0)) _ (a .2)))
+    (or-cases (anyB n p) (anyB n q) e))
+
+-- no number passes, and one does
+pub any-false : (n : ℕ) → anyB n (λ i. false) ≡ false
+any-false n = not-so _ (λ e. false≢true (any-at n (λ i. false) e .2))
+
+pub any-one : (n : ℕ) (p : ℕ → Bool) (k : ℕ) → k < n → anyB n (λ i. eqb i k && p i) ≡ p k
+any-one n p k l =
+    both-ways _ _
+    (λ e. let a = any-at n (λ i. eqb i k && p i) e in ap p (sym (eqb-true _ _ (and-l (eqb (a .0) k) (p (a .0)) (a .2)))) ∙ and-r (eqb (a .0) k) (p (a .0)) (a .2))
+    (λ e. any-i n (λ i. eqb i k && p i) k l (and-i (eq-eqb k k refl) e))
