@@ -1,14 +1,18 @@
 -- What a passed order gives its users: a partial order on the levels below the count, with a top.
 -- Assumes nothing.
-use mathlib.Core.Path.{_≡_}
-use mathlib.Core.Bool.{true, _&&_, and-eq-true-iff}
-use Prim.Native.Nat.{ℕ, _≤_, _<_}
-use lib.Dec.{eqb}
-use borrow.Author.Tests.{ltb-true, leb-true, eqb-true}
+use mathlib.Core.Path.{_≡_, sym, ap, _∙_}
+use mathlib.Core.Bool.{true, false, _&&_, true≢false, and-eq-true-iff}
+use Prim.Native.Nat.{ℕ, _^_, _≤_, _<_}
+use native.Mathlib.Nat.{lt-of-not-le}
+use lib.Dec.{ltb, eqb}
+use lib.ListN.{length, getD, List·getD-eq-default}
+use borrow.Author.Tests.{ltb-true, lt-ltb, leb-true, eqb-true}
+use Rattle.bits.specs.Bit.{bit}
+use Rattle.bits.specs.BitLaws.{bit-zero, bit-below}
 use Rattle.bits.specs.All.{allB, _⇒_}
-use Rattle.bits.specs.AllLaws.{all-at, implies, and-i}
+use Rattle.bits.specs.AllLaws.{all-at, implies, and-i, and-r, not-so}
 use Rattle.levels.specs.declared.Order.{Order}
-use Rattle.levels.specs.Order.{mostLevels, atOrBelow, countFits, reflexive, transitive, antisymmetric, belowTop, orderPasses}
+use Rattle.levels.specs.Order.{mostLevels, related, inOrder, atOrBelow, countFits, reflexive, transitive, antisymmetric, belowTop, orderPasses}
 
 pub record IsOrder (o : Order) : Type 0 where
   pub some : 1 ≤ o .count
@@ -22,6 +26,24 @@ pub record IsOrder (o : Order) : Type 0 where
 pub both-in : (o : Order) (a b : ℕ) → atOrBelow o a b ≡ true → (a < o .count) × (b < o .count)
 unfolding atOrBelow
 both-in o a b e = let p = simp and-eq-true-iff at e in (ltb-true _ _ (p .0 .0), ltb-true _ _ (p .0 .1))
+
+pub at-i : (o : Order) (a b : ℕ) → a < o .count → b < o .count → related o a b ≡ true → atOrBelow o a b ≡ true
+unfolding atOrBelow
+at-i o a b la lb e = rw (lt-ltb a (o .count) la, lt-ltb b (o .count) lb) e
+
+pub at-related : (o : Order) (a b : ℕ) → atOrBelow o a b ≡ true → related o a b ≡ true
+unfolding atOrBelow
+at-related o a b e = and-r (inOrder o a && inOrder o b) (related o a b) e
+
+-- no level past the sixteen rows is at or below another, and none is at or above one
+pub at-outside : (o : Order) → length (o .rows) ≡ 16 → ((a : ℕ) → getD (o .rows) a 0 < 2 ^ 16) → (a b : ℕ)
+    → (inOrder o a && inOrder o b && ltb a 16 && ltb b 16) ≡ false → atOrBelow o a b ≡ false
+at-outside o long fits a b out = not-so (atOrBelow o a b) (λ e.
+    let r = at-related o a b e in
+    let l = both-in o a b e in
+    let la : a < 16 = lt-of-not-le (λ (k : 16 ≤ a). true≢false (sym r ∙ ap (λ (x : ℕ). bit x b) (List·getD-eq-default (o .rows) 0 (rw long k)) ∙ bit-zero b)) in
+    let lb : b < 16 = bit-below 16 _ b (fits a) r in
+    true≢false (sym (rw (lt-ltb a (o .count) (l .0), lt-ltb b (o .count) (l .1), lt-ltb a 16 la, lt-ltb b 16 lb)) ∙ out))
 
 module _ (o : Order) (ok : orderPasses o ≡ true) where
   pub is-order : IsOrder o

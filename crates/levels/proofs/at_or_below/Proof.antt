@@ -8,7 +8,7 @@ use borrow.Author.Needs.{needs}
 use borrow.Author.Tests.{ltb-true}
 use Rattle.bits.specs.Bit.{bit}
 use Rattle.levels.specs.Order.{atOrBelow}
-use Rattle.levels.specs.OrderRows.{at-outside}
+use Rattle.levels.specs.OrderLaws.{at-outside}
 use Rattle.levels.proofs.at_or_below.Statement.{statement}
 use Rattle.levels.proofs.at_or_below.Tie as tie
 
@@ -27,7 +27,7 @@ returns-2 c =
     let o = c .before .args .t1 in
     let fits : (k : ℕ) → Fits w16 (getD (o .rows) k 0) = λ k. search needs in
     let long : length (o .rows) ≡ 16 = search needs in
-    sym (at-outside o (λ k. fits k .fits) long _ _ (c .if1 .left))
+    sym (at-outside o long (λ k. fits k .fits) _ _ (c .if1 .left))
 
 pub at-or-below-spec : {M : Type 1} → statement M
 at-or-below-spec = tie.close (tie.spec (λ c. search needs) element-copy-out-result shr-result returns returns-2)

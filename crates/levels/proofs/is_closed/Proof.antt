@@ -4,7 +4,8 @@ use native.Mathlib.Omega.{arith}
 use lib.Bits.{and-le-r}
 use borrow.Author.Tests.{eq-eqb, ne-eqb}
 use Rattle.bits.specs.BitLaws.{trailing-lt}
-use Rattle.levels.specs.OrderRows.{within, Passed, passed-none, passed-all, passed-fails, passed-more}
+use Rattle.levels.specs.OrderRows.{within}
+use Rattle.levels.specs.OrderRowsLaws.{Passed, passed-none, passed-all, passed-fails, passed-more}
 use Rattle.levels.proofs.is_closed.Statement.{statement}
 use Rattle.levels.proofs.is_closed.Tie as tie
 

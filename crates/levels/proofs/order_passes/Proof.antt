@@ -4,7 +4,7 @@ use lib.ListN.{getD}
 use mir.Syntax.{w16}
 use mir.Val.{Fits}
 use borrow.Author.Needs.{needs}
-use Rattle.levels.specs.OrderRows.{by-rows}
+use Rattle.levels.specs.OrderRowsLaws.{by-rows}
 use Rattle.levels.proofs.order_passes.Statement.{statement}
 use Rattle.levels.proofs.order_passes.Tie as tie
 

@@ -1,0 +1,252 @@
+-- The order's test by whole rows is the order's test.
+-- Assumes nothing.
+use mathlib.Core.Path.{_≡_, refl, sym, ap, _∙_, subst}
+use mathlib.Core.Logic.{_⊎_, inl, inr, ⊎-elim}
+use mathlib.Core.Bool.{Bool, true, false, not, _&&_, _||_, true≢false, and-eq-true-iff}
+use mathlib.Core.List.{List}
+use Prim.Native.Nat.{ℕ, _+_, _-_, _/_, _%_, _^_, _≤_, _<_}
+use native.Mathlib.Nat.{lt-of-not-le}
+use native.Mathlib.Omega.{arith}
+use lib.Bits.{bitAnd, bitOr, or-lt, and-le-l}
+use lib.Count.{trailingZeros}
+use lib.Dec.{ltb, eqb}
+use lib.ListN.{getD}
+use lib.Pow.{pow-lt, shr-shr, shr-le}
+use borrow.Author.Tests.{ltb-true, lt-ltb, leb-true, le-leb, eqb-true, eqb-false, eq-eqb, ltb-false, not-true}
+use Rattle.bits.specs.Bit.{bit}
+use Rattle.bits.specs.BitLaws.{bit-and, bit-or, bit-not, bit-pow, bit-zero, bit-below, bit-ext, bit-rest, trailing-set, trailing-lt}
+use Rattle.bits.specs.All.{allB, _⇒_}
+use Rattle.bits.specs.AllLaws.{and-i, and-l, and-r, and-true, either, both-ways, not-so, implies, implied, all-at, all-i, all-fails, or-l, or-r}
+use Rattle.levels.specs.declared.Order.{Order}
+use Rattle.levels.specs.Order.{mostLevels, related, inOrder, atOrBelow, countFits, reflexive, transitive, antisymmetric, belowTop, clearOutside, orderPasses}
+use Rattle.levels.specs.OrderLaws.{IsOrder, is-order, both-in, at-i, at-related}
+use Rattle.levels.specs.OrderRows.{within, closed, above, rowFits, levelPasses, rowPasses, rowsPass}
+
+-- ---- bits
+
+bit-shift : (w k i : ℕ) → bit (w / 2 ^ k) i ≡ bit w (k + i)
+unfolding bit
+bit-shift w k i = ap (λ (x : ℕ). eqb (x % 2) 1) (shr-shr w k i)
+
+-- `w >> k` is 0 where w has no bit from k on
+short-i : (k w : ℕ) → w < 2 ^ 16 → ((b : ℕ) → b < 16 → bit w b ≡ true → b < k) → w / 2 ^ k ≡ 0
+short-i k w h f =
+    bit-ext 16 (w / 2 ^ k) 0 (omega (arith, shr-le w k)) (omega arith)
+    (λ i l. bit-shift w k i ∙ not-so (bit w (k + i)) (λ e. omega (arith, f (k + i) (bit-below 16 w (k + i) h e) e)) ∙ sym (bit-zero i))
+
+short-at : (k w b : ℕ) → w / 2 ^ k ≡ 0 → bit w b ≡ true → b < k
+short-at k w b h e = lt-of-not-le λ (l : k ≤ b).
+    let f : b ≡ k + (b - k) = omega arith in
+    true≢false (sym e ∙ ap (bit w) f ∙ sym (bit-shift w k (b - k)) ∙ ap (λ (x : ℕ). bit x (b - k)) h ∙ bit-zero (b - k))
+
+-- ---- rows within rows
+
+or-keeps : (x y : Bool) → (x ≡ true → y ≡ true) → (x || y) ≡ y
+or-keeps true y h = sym (h refl)
+or-keeps false y h = refl
+
+within-at : (rows : List ℕ) (w b : ℕ) → within rows w b ≡ true → (c : ℕ) → bit (getD rows b 0) c ≡ true → bit w c ≡ true
+unfolding within
+within-at rows w b e c p = ap (λ (x : ℕ). bit x c) (sym (eqb-true _ w e)) ∙ bit-or (getD rows b 0) w c ∙ or-l (bit (getD rows b 0) c) (bit w c) p
+
+within-i : (rows : List ℕ) (w b : ℕ) → getD rows b 0 < 2 ^ 16 → w < 2 ^ 16 → ((c : ℕ) → bit (getD rows b 0) c ≡ true → bit w c ≡ true) → within rows w b ≡ true
+unfolding within
+within-i rows w b hr hw h =
+    eq-eqb _ w (bit-ext 16 (bitOr (getD rows b 0) w) w (or-lt 16 (getD rows b 0) w hr hw) hw
+    (λ c l. bit-or (getD rows b 0) w c ∙ or-keeps (bit (getD rows b 0) c) (bit w c) (h c)))
+
+bit-above : (rows : List ℕ) (a b : ℕ) → a < 16 → b < 16 → bit (above rows a) b ≡ (bit (getD rows a 0) b && not (eqb b a))
+unfolding above
+bit-above rows a b la lb =
+    bit-and (getD rows a 0) ((2 ^ 16 - 1) - 2 ^ a) b
+    ∙ ap (λ (x : Bool). bit (getD rows a 0) b && x) (bit-not 16 (2 ^ a) b (pow-lt la) lb ∙ ap not (bit-pow a b))
+
+-- ---- the loop over the levels of w: those left are of w, and those of w that are not left are within w
+
+pub record Passed (rows : List ℕ) (w left : ℕ) : Type 0 where
+  pub of-w : (c : ℕ) → bit left c ≡ true → bit w c ≡ true
+  pub done : (c : ℕ) → bit w c ≡ true → (bit left c || within rows w c) ≡ true
+
+module _ (rows : List ℕ) (w : ℕ) where
+  pub passed-none : Passed rows w w
+  passed-none = record { of-w = λ c p. p; done = λ c p. or-l (bit w c) (within rows w c) p }
+
+  pub passed-all : Passed rows w 0 → closed rows w ≡ true
+  unfolding closed
+  passed-all s = all-i mostLevels _ (λ c l. implied (bit w c) (within rows w c) (λ p. ap (λ (x : Bool). x || within rows w c) (sym (bit-zero c)) ∙ s .done c p))
+
+  module _ (left : ℕ) (fits : left < 2 ^ 16) (some : 0 < left) (s : Passed rows w left) where
+    pub passed-fails : within rows w (trailingZeros 16 left) ≡ false → closed rows w ≡ false
+    unfolding closed
+    passed-fails e =
+        let b = trailingZeros 16 left in
+        all-fails mostLevels _ b (trailing-lt 16 left fits some) (rw (s .of-w b (trailing-set 16 left fits some), e))
+
+    pub passed-more : within rows w (trailingZeros 16 left) ≡ true → Passed rows w (bitAnd left (left - 1))
+    passed-more e = record { of-w = λ c p. s .of-w c (and-l (bit left c) _ (sym (bit-rest 16 left c fits some) ∙ p)); done = λ c p. go c p (either (eqb c (trailingZeros 16 left))) }
+      where
+        go : (c : ℕ) → bit w c ≡ true → (eqb c (trailingZeros 16 left) ≡ true) ⊎ (eqb c (trailingZeros 16 left) ≡ false) → (bit (bitAnd left (left - 1)) c || within rows w c) ≡ true
+        go c p (inl q) = or-r (bit (bitAnd left (left - 1)) c) (within rows w c) (ap (within rows w) (eqb-true _ _ q) ∙ e)
+        go c p (inr q) = rw (bit-rest 16 left c fits some, q, and-true (bit left c)) (s .done c p)
+
+-- ---- the two tests agree
+
+-- no bit outside the count
+Inside : Order → Type 0
+Inside o = (a b : ℕ) → a < mostLevels → b < mostLevels → related o a b ≡ true → (a < o .count) × (b < o .count)
+
+-- what a passed order has makes the test pass
+order-passes : (o : Order) → IsOrder o → Inside o → orderPasses o ≡ true
+unfolding orderPasses countFits reflexive transitive antisymmetric belowTop clearOutside Inside
+order-passes o h inside =
+    simp and-eq-true-iff (
+      (
+        (
+          (
+            (
+              (le-leb 1 (o .count) (h .some), le-leb (o .count) mostLevels (h .few)),
+              all-i (o .count) _ (h .self),
+            ),
+            all-i (o .count) _ (λ a la. all-i (o .count) _ (λ b lb. all-i (o .count) _ (λ c lc.
+                implied (atOrBelow o a b && atOrBelow o b c) (atOrBelow o a c) (λ e. h .trans a b c (and-l (atOrBelow o a b) (atOrBelow o b c) e) (and-r (atOrBelow o a b) (atOrBelow o b c) e))))),
+          ),
+          all-i (o .count) _ (λ a la. all-i (o .count) _ (λ b lb.
+              implied (atOrBelow o a b && atOrBelow o b a) (eqb a b) (λ e. eq-eqb a b (h .anti a b (and-l (atOrBelow o a b) (atOrBelow o b a) e) (and-r (atOrBelow o a b) (atOrBelow o b a) e))))),
+        ),
+        all-i (o .count) _ (h .upper),
+      ),
+      all-i mostLevels _ (λ a la. all-i mostLevels _ (λ b lb.
+          implied (related o a b) (inOrder o a && inOrder o b) (λ e. let p = inside a b la lb e in and-i (lt-ltb a (o .count) (p .0)) (lt-ltb b (o .count) (p .1))))),
+    )
+
+order-inside : (o : Order) → orderPasses o ≡ true → Inside o
+unfolding orderPasses clearOutside Inside
+order-inside o ok a b la lb e =
+    let p = (simp and-eq-true-iff at ok) .1 in
+    let at-a = all-at mostLevels (λ a. allB mostLevels (λ b. related o a b ⇒ (inOrder o a && inOrder o b))) p a la in
+    let q = implies (related o a b) (inOrder o a && inOrder o b) (all-at mostLevels (λ b. related o a b ⇒ (inOrder o a && inOrder o b)) at-a b lb) e in
+    (ltb-true _ _ (and-l (inOrder o a) (inOrder o b) q), ltb-true _ _ (and-r (inOrder o a) (inOrder o b) q))
+
+module _ (o : Order) (fits : (a : ℕ) → getD (o .rows) a 0 < 2 ^ 16) where
+  module _ (ok : rowsPass (o .rows) (o .count) (o .top) ≡ true) where
+    few : o .count ≤ mostLevels
+    unfolding rowsPass
+    few = leb-true _ _ ((simp and-eq-true-iff at ok) .0 .0)
+
+    top-in : o .top < o .count
+    unfolding rowsPass
+    top-in = ltb-true _ _ ((simp and-eq-true-iff at ok) .0 .1)
+
+    row-at : (a : ℕ) → a < mostLevels → rowPasses (o .rows) (o .count) (o .top) a ≡ true
+    unfolding rowsPass
+    row-at a l = all-at mostLevels _ ((simp and-eq-true-iff at ok) .1) a l
+
+    level-at : (a : ℕ) → a < o .count → levelPasses (o .rows) (o .count) (o .top) a ≡ true
+    unfolding rowPasses
+    level-at a l = rw (lt-ltb a (o .count) l) at (row-at a (omega (arith, few)))
+
+    own : (a : ℕ) → a < o .count → related o a a ≡ true
+    unfolding levelPasses rowFits
+    own a l = (simp and-eq-true-iff at (level-at a l)) .0 .0 .1
+
+    up : (a : ℕ) → a < o .count → related o a (o .top) ≡ true
+    unfolding levelPasses rowFits
+    up a l = (simp and-eq-true-iff at (level-at a l)) .0 .1
+
+    -- what is at or above b, which is strictly above a, is strictly above a
+    step : (a b c : ℕ) → a < o .count → b < mostLevels → eqb b a ≡ false → related o a b ≡ true → related o b c ≡ true → (related o a c && not (eqb c a)) ≡ true
+    unfolding levelPasses closed
+    step a b c la lb n e f =
+        let w = above (o .rows) a in
+        let la′ : a < 16 = omega (arith, few) in
+        let q = all-at mostLevels (λ b. bit w b ⇒ within (o .rows) w b) ((simp and-eq-true-iff at (level-at a la)) .1) b lb in
+        let p : bit w b ≡ true = bit-above (o .rows) a b la′ lb ∙ rw (e, n) in
+        sym (bit-above (o .rows) a c la′ (bit-below 16 _ c (fits b) f)) ∙ within-at (o .rows) w b (implies (bit w b) (within (o .rows) w b) q p) c f
+
+    rows-inside : Inside o
+    unfolding Inside rowPasses levelPasses rowFits
+    rows-inside a b la lb e = go (either (ltb a (o .count)))
+      where
+        go : (ltb a (o .count) ≡ true) ⊎ (ltb a (o .count) ≡ false) → (a < o .count) × (b < o .count)
+        go (inl l) = let la = ltb-true a (o .count) l in (la, short-at (o .count) _ b (eqb-true _ 0 ((simp and-eq-true-iff at (level-at a la)) .0 .0 .0)) e)
+        go (inr l) =
+            let z : getD (o .rows) a 0 ≡ 0 = eqb-true _ 0 (rw l at (row-at a la)) in
+            absurd (true≢false (sym e ∙ ap (λ (x : ℕ). bit x b) z ∙ bit-zero b))
+
+    rows-order : IsOrder o
+    rows-order = record {
+      some = omega (arith, top-in);
+      few = few;
+      self = λ a l. at-i o a a l l (own a l);
+      trans = λ a b c e f.
+          let ab = both-in o a b e in
+          let bc = both-in o b c f in
+          ⊎-elim (λ q. subst (λ (x : ℕ). atOrBelow o x c ≡ true) (eqb-true b a q) f)
+          (λ q. at-i o a c (ab .0) (bc .1) (and-l (related o a c) _ (step a b c (ab .0) (omega (arith, few)) q (at-related o a b e) (at-related o b c f))))
+          (either (eqb b a));
+      anti = λ a b e f.
+          let ab = both-in o a b e in
+          ⊎-elim (λ q. sym (eqb-true b a q))
+          (λ q. absurd (eqb-false a a (not-true _ (and-r (related o a a) _ (step a b a (ab .0) (omega (arith, few)) q (at-related o a b e) (at-related o b a f)))) refl))
+          (either (eqb b a));
+      upper = λ a l. at-i o a (o .top) l top-in (up a l);
+    }
+
+  module _ (ok : orderPasses o ≡ true) where
+    is : IsOrder o
+    is = is-order o ok
+
+    in-top : o .top < o .count
+    in-top = both-in o 0 (o .top) (is .upper 0 (is .some)) .1
+
+    above-lt : (a : ℕ) → above (o .rows) a < 2 ^ 16
+    unfolding above
+    above-lt a = omega (arith, and-le-l (getD (o .rows) a 0) ((2 ^ 16 - 1) - 2 ^ a), fits a)
+
+    above-closed : (a : ℕ) → a < o .count → closed (o .rows) (above (o .rows) a) ≡ true
+    unfolding closed Inside
+    above-closed a la = all-i mostLevels _ (λ b lb. implied (bit w b) (within (o .rows) w b) (λ p. within-i (o .rows) w b (fits b) (above-lt a) (λ c q. reach b lb p c q)))
+      where
+        w : ℕ
+        w = above (o .rows) a
+
+        la′ : a < 16
+        la′ = omega (arith, is .few)
+
+        reach : (b : ℕ) → b < mostLevels → bit w b ≡ true → (c : ℕ) → related o b c ≡ true → bit w c ≡ true
+        reach b lb p c q =
+            let lc : c < 16 = bit-below 16 _ c (fits b) q in
+            let ab = sym (bit-above (o .rows) a b la′ lb) ∙ p in
+            let l = order-inside o ok b c lb lc q in
+            let e : atOrBelow o a b ≡ true = at-i o a b la (l .0) (and-l (related o a b) _ ab) in
+            let f : atOrBelow o b c ≡ true = at-i o b c (l .0) (l .1) q in
+            bit-above (o .rows) a c la′ lc
+            ∙ and-i (at-related o a c (is .trans a b c e f)) (ap not (not-so (eqb c a) (λ t.
+            eqb-false b a (not-true _ (and-r (related o a b) _ ab)) (sym (is .anti a b e (subst (λ (x : ℕ). atOrBelow o b x ≡ true) (eqb-true c a t) f))))))
+
+    row-passes : (a : ℕ) → a < mostLevels → rowPasses (o .rows) (o .count) (o .top) a ≡ true
+    unfolding rowPasses levelPasses rowFits Inside
+    row-passes a la = go (either (ltb a (o .count)))
+      where
+        go : (ltb a (o .count) ≡ true) ⊎ (ltb a (o .count) ≡ false) → rowPasses (o .rows) (o .count) (o .top) a ≡ true
+        go (inl l) =
+            let lc = ltb-true a (o .count) l in
+            rw l (simp and-eq-true-iff (
+              (
+                (
+                  eq-eqb _ 0 (short-i (o .count) (getD (o .rows) a 0) (fits a) (λ b lb e. order-inside o ok a b la lb e .1)),
+                  at-related o a a (is .self a lc),
+                ),
+                at-related o a (o .top) (is .upper a lc),
+              ),
+              above-closed a lc,
+            ))
+        go (inr l) =
+            rw l (eq-eqb _ 0 (bit-ext 16 (getD (o .rows) a 0) 0 (fits a) (omega arith) (λ b lb.
+            not-so (bit (getD (o .rows) a 0) b) (λ e. omega (arith, ltb-false a (o .count) l, order-inside o ok a b la lb e .0)) ∙ sym (bit-zero b))))
+
+  pub by-rows : rowsPass (o .rows) (o .count) (o .top) ≡ orderPasses o
+  unfolding rowsPass
+  by-rows =
+      both-ways _ _ (λ e. order-passes o (rows-order e) (rows-inside e))
+      (λ e. simp and-eq-true-iff ((le-leb (o .count) mostLevels (is e .few), lt-ltb (o .top) (o .count) (in-top e)), all-i mostLevels _ (row-passes e)))
