@@ -34,7 +34,7 @@ sized-more g h = g .length-kept ∙ h
 pub marked-below : (m : Memory) (x : ℕ) → Sized m → marked m x ≡ true → x < numbers
 unfolding marked field
 marked-below m x h e =
-    lt-of-not-le (λ (l : numbers ≤ x). let z : length (m .bytes) ≤ recordSize * x + 5 = omega arith in false≢true (sym (ap (λ (k : ℕ). not (eqb k 0)) (List·getD-eq-default (m .bytes) 0 z)) ∙ e))
+    lt-of-not-le (λ (l : numbers ≤ x). let z = List·getD-eq-default (m .bytes) 0 {n = recordSize * x + 5} (omega arith) in false≢true (rw z at e))
 
 object-used : (m : Memory) (x : ℕ) → object m x ≡ true → inUse m x ≡ true
 unfolding object isObject inUse
@@ -108,18 +108,11 @@ rest-closed m h r =
 
 -- ---- rounds
 
--- what a round keeps
+-- what a round keeps, rounds keep
 pub after-keeps : (P : Memory → Type 0) → ((m : Memory) → P m → P (round m)) → (k : ℕ) (m : Memory) → P m → P (afterRounds k m)
 unfolding afterRounds
 after-keeps P h zero m p = p
 after-keeps P h (suc k) m p = ⊎-elim (λ e. rw e (after-keeps P h k (round m) (h m p))) (λ e. rw e p) (either (marksSome m))
-
-pub more-rounds : (k : ℕ) (m : Memory) → MoreMarks m (afterRounds k m)
-more-rounds k m = after-keeps (MoreMarks m) (λ n g. more-then g (more-round n)) k m (more-none m)
-
-pub rounds-only : (Q : ℕ → Type 0) (k : ℕ) (m : Memory) → Closed m Q → Sized m → MarksIn Q m → MarksIn Q (afterRounds k m)
-rounds-only Q k m c h q =
-    after-keeps (λ n. MoreMarks m n × MarksIn Q n) (λ n p. (more-then (p .0) (more-round n), round-only Q m n c (p .0) (sized-more (p .0) h) (p .1))) k m (more-none m, q) .1
 
 -- the unmarked things in use
 abbrev pub unmarked : Memory → ℕ → Bool
@@ -128,7 +121,8 @@ unmarked m x = inUse m x && not (marked m x)
 -- a round that marks something leaves fewer of them
 pub round-fewer : (m : Memory) → Sized m → marksSome m ≡ true → countB numbers (unmarked (round m)) < countB numbers (unmarked m)
 unfolding marksSome
-round-fewer m h e = count-more numbers (unmarked (round m)) (unmarked m) still (all-fails numbers _ (s .0) (s .1) (fails (s .0) (s .1) (t .0) (not-true _ (t .1))))
+round-fewer m h e =
+    count-more numbers (unmarked (round m)) (unmarked m) still (all-fails numbers _ (s .0) (s .1) (fails (s .0) (s .1) (t .0) (not-true _ (t .1))))
   where
     g : MoreMarks m (round m)
     g = more-round m
@@ -160,7 +154,7 @@ rounds-rest zero m h l = not-so (marksSome m) (λ e. absurd (omega (arith, round
 rounds-rest (suc k) m h l =
     ⊎-elim (λ e. rw e (rounds-rest k (round m) (sized-more (more-round m) h) (omega (arith, round-fewer m h e)))) (λ e. rw e e) (either (marksSome m))
 
--- and no more of them mark something
+-- and no more than that mark something
 pub rounds-few : (k : ℕ) (m : Memory) → Sized m → rounds k m ≤ countB numbers (unmarked m)
 unfolding rounds
 rounds-few zero m h = zero-le
@@ -180,11 +174,15 @@ rest-rounds (suc k) m e = rw e
 
 pub spread-more : (m : Memory) → MoreMarks m (spread m .memory)
 unfolding spread
-spread-more m = more-rounds _ m
+spread-more m = after-keeps (MoreMarks m) (λ n g. more-then g (more-round n)) _ m (more-none m)
 
+-- where the marked are in a Q so closed, the spread marks nothing outside it
 pub spread-only : (Q : ℕ → Type 0) (m : Memory) → Closed m Q → Sized m → MarksIn Q m → MarksIn Q (spread m .memory)
 unfolding spread
-spread-only Q m = rounds-only Q _ m
+spread-only Q m c h q =
+    after-keeps (λ n. MoreMarks m n × MarksIn Q n)
+    (λ n p. (more-then (p .0) (more-round n), round-only Q m n c (p .0) (sized-more (p .0) h) (p .1)))
+    _ m (more-none m, q) .1
 
 -- one more round marks nothing
 pub spread-rests : (m : Memory) → Sized m → marksSome (spread m .memory) ≡ false
