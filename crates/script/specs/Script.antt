@@ -7,17 +7,29 @@ use lib.Dec.{leb, eqb}
 use lib.ListN.{length, getD, replicate}
 use Rattle.levels.specs.declared.Order.{Order}
 use Rattle.levels.specs.Order.{mostLevels}
+use Rattle.script.specs.declared.Line.{Line}
+use Rattle.script.specs.declared.Line.the-variants.{Bad, TooMany, Starts, Asks}
+use Rattle.script.specs.declared.Parsed.{Parsed}
 use Rattle.model.specs.declared.Call.{Call}
 use Rattle.model.specs.declared.Call.the-variants.{Read, Write, Execute, Create, CreateRoot, Move, Delete, CallTask, Invoke, Pass, Post, Find, Mark, Step, Spread}
 
-pub data Line : Type 0 where
-  -- a line that is no call: it prints bad and does nothing
-  bad : Line
-  -- a start whose count is over sixteen: verdict 3, what follows the count unread
-  too-many : Line
-  -- a start with its order
-  starts : Order → Line
-  asks : Call → Line
+-- ---- what a line can be
+
+-- all zero
+abbrev pub noOrder : Order
+noOrder = record { rows = replicate mostLevels 0; count = 0; top = 0 }
+
+abbrev pub bad : Parsed
+bad = record { line = Bad; order = noOrder }
+
+abbrev pub tooMany : Parsed
+tooMany = record { line = TooMany; order = noOrder }
+
+abbrev pub starts : Order → Parsed
+starts o = record { line = Starts; order = o }
+
+abbrev pub asks : Call → Parsed
+asks c = record { line = Asks c; order = noOrder }
 
 -- ---- pieces: one space parts them
 
@@ -120,11 +132,11 @@ spreadWord = 115 ∷ 112 ∷ 114 ∷ 101 ∷ 97 ∷ 100 ∷ []
 -- ---- lines
 
 -- a call wants just so many numbers
-unfoldable pub counted : ℕ → List ℕ → Call → Line
+unfoldable pub counted : ℕ → List ℕ → Call → Parsed
 counted n ns c = cond (eqb (length ns) n) (asks c) bad
 
 -- the call that a word and its numbers are
-unfoldable pub callOf : List ℕ → List ℕ → Line
+unfoldable pub callOf : List ℕ → List ℕ → Parsed
 callOf w ns =
     let a = getD ns 0 0 in
     let b = getD ns 1 0 in
@@ -149,23 +161,23 @@ callOf w ns =
     bad))))))))))))))
 
 -- count, top and as many rows as the count says; the other rows are zero
-unfoldable pub orderOf : ℕ → List ℕ → Line
+unfoldable pub orderOf : ℕ → List ℕ → Parsed
 orderOf n [] = bad
 orderOf n (t ∷ rs) =
     cond (eqb (length rs) n) (starts (record { rows = rs ++ replicate (mostLevels - n) 0; count = n; top = t })) bad
 
 -- what follows the word start
-unfoldable pub startOf : List (List ℕ) → Line
+unfoldable pub startOf : List (List ℕ) → Parsed
 startOf [] = bad
 startOf (p ∷ ps) =
     cond (isNumber p)
-    (cond (leb (value p) mostLevels) (cond (allNumbers ps) (orderOf (value p) (values ps)) bad) too-many)
+    (cond (leb (value p) mostLevels) (cond (allNumbers ps) (orderOf (value p) (values ps)) bad) tooMany)
     bad
 
-unfoldable pub lineOf : List (List ℕ) → Line
+unfoldable pub lineOf : List (List ℕ) → Parsed
 lineOf [] = bad
 lineOf (w ∷ ps) = cond (sameWord w startWord) (startOf ps) (cond (allNumbers ps) (callOf w (values ps)) bad)
 
 -- what a line means
-unfoldable pub readLine : List ℕ → Line
+unfoldable pub readLine : List ℕ → Parsed
 readLine bs = lineOf (pieces bs)
