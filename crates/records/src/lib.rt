@@ -1,10 +1,30 @@
 // The records of the numbers, and the test that the bytes are sound.
 ghost use mathlib.Core.Path.{_≡_};
+ghost use Prim.Native.Nat.{_*_, _≤_, _<_};
+ghost use lib.Dec.{eqb};
 ghost use lib.ListN.{length, replicate};
-ghost use Rattle.records.specs.Records.{field, setField, setRecord, isTask, isObject};
+ghost use Rattle.records.specs.Records.{
+  numbers,
+  recordSize,
+  field,
+  setField,
+  setRecord,
+  kind,
+  isTask,
+  isObject,
+  coreRecord,
+  soundRecord,
+  sound,
+};
+ghost use Rattle.records.specs.HalfLaws.{joined, half, taskHalves, containerFits, objectHalves};
+use levels::Order;
 
-// The bytes of a record.
+// How many numbers there are, and the bytes of a record and of them all.
+pub const NUMBERS: usize = 128;
+
 const RECORD_SIZE: usize = 8;
+
+pub const BYTES: usize = 1024;
 
 // Where each field stands in its record. The two spare bytes are zero.
 pub const KIND: u16 = 0;
@@ -94,4 +114,117 @@ pub fn clear_all(bytes: &mut [u8])
         bytes[i] = 0;
         i += 1;
     }
+}
+
+// ---- soundness. Each record is read as two numbers of four bytes, which the compiler turns into two loads.
+
+// Four bytes as one number, the first lowest.
+fn join(a: u8, b: u8, c: u8, d: u8) -> usize
+    ensures { λ r. ⌜ r ≡ joined a b c d ⌝ }
+{
+    (a as usize) + (b as usize) * 0x100 + (c as usize) * 0x1_0000 + (d as usize) * 0x100_0000
+}
+
+// The half of the record of x that starts at f.
+fn half(bytes: &[u8], x: usize, f: usize) -> usize
+    requires { ⌜ (length (now bytes) ≡ recordSize * numbers) × (x < numbers) × (f ≤ 4) ⌝ }
+    ensures { λ r. ⌜ r ≡ half (now (bytes .entry)) x f ⌝ }
+{
+    let i = RECORD_SIZE * x + f;
+    join(bytes[i], bytes[i + 1], bytes[i + 2], bytes[i + 3])
+}
+
+fn kind_at(bytes: &[u8], x: usize) -> u8
+    requires { ⌜ (length (now bytes) ≡ recordSize * numbers) × (x < numbers) ⌝ }
+    ensures { λ r. ⌜ r ≡ kind (now (bytes .entry)) x ⌝ }
+{
+    let i = RECORD_SIZE * x;
+    bytes[i]
+}
+
+// The test of a task: level and read level below the count; driver, container and the spare bytes 0; marks 0, 1 or 3.
+fn task_halves(low: usize, high: usize, count: usize) -> bool
+    ensures { λ r. ⌜ r ≡ taskHalves count low high ⌝ }
+{
+    if (low / 0x100 % 0x100 < count) & (low / 0x1_0000 < count) & (low < 0x100_0000) {
+        (high == 0) | (high == 0x100) | (high == 0x300)
+    } else {
+        false
+    }
+}
+
+// An object's container is the root sign or another object.
+fn container_sound(bytes: &[u8], x: usize, container: usize) -> bool
+    requires { ⌜ length (now bytes) ≡ recordSize * numbers ⌝ }
+    ensures { λ r. ⌜ r ≡ containerFits (now (bytes .entry)) x container ⌝ }
+{
+    if container == ROOT_SIGN as usize {
+        return true;
+    }
+    if container < NUMBERS {
+        (kind_at(bytes, container) == OBJECT) & (container != x)
+    } else {
+        false
+    }
+}
+
+// The test of the object x: level below the count, read level 0, a task as driver. The upper half less its lowest mark is the
+// container, or 256 and more where another mark or a spare byte is set.
+fn object_halves(bytes: &[u8], x: usize, low: usize, high: usize, count: usize) -> bool
+    requires { ⌜ length (now bytes) ≡ recordSize * numbers ⌝ }
+    ensures { λ r. ⌜ r ≡ objectHalves count (now (bytes .entry)) x low high ⌝ }
+{
+    let driver = low / 0x100_0000;
+    if (low / 0x100 % 0x100 < count) & (low / 0x1_0000 % 0x100 == 0) & (driver < NUMBERS) {
+        (kind_at(bytes, driver) == TASK)
+            & container_sound(bytes, x, high - high / 0x100 % 2 * 0x100)
+    } else {
+        false
+    }
+}
+
+fn record_sound(bytes: &[u8], order: Order, x: usize) -> bool
+    requires { ⌜ (length (now bytes) ≡ recordSize * numbers) × (x < numbers) ⌝ }
+    ensures { λ r. ⌜ r ≡ soundRecord order (now (bytes .entry)) x ⌝ }
+{
+    let low = half(bytes, x, 0);
+    let high = half(bytes, x, 4);
+    let kind = low % 0x100;
+    let count = order.count as usize;
+    if kind == TASK as usize {
+        task_halves(low, high, count)
+    } else {
+        if kind == OBJECT as usize {
+            object_halves(bytes, x, low, high, count)
+        } else {
+            (low == 0) & (high == 0)
+        }
+    }
+}
+
+// Number 0 is a task at the top level.
+fn core_sound(bytes: &[u8], order: Order) -> bool
+    ensures { λ r. ⌜ r ≡ coreRecord order (now (bytes .entry)) ⌝ }
+{
+    is_task(bytes, 0) & (field(bytes, 0, LEVEL) as u16 == order.top)
+}
+
+// The bytes are sound.
+pub fn sound(bytes: &[u8], order: Order) -> bool
+    ensures { λ r. ⌜ r ≡ sound order (now (bytes .entry)) ⌝ }
+{
+    if bytes.len() != BYTES {
+        return false;
+    }
+    if !core_sound(bytes, order) {
+        return false;
+    }
+    let mut x: usize = 0;
+    while x < NUMBERS {
+        if !record_sound(bytes, order, x) {
+            return false;
+        }
+        x += 1;
+    }
+    true
 }
