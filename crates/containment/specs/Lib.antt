@@ -1,3 +1,5 @@
 pub mod Lists
 pub mod Chains
 pub mod Claims
+pub mod Kept
+pub mod Soundness

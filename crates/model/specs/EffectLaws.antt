@@ -57,11 +57,11 @@ AllFit es = AllOf Fits es
 
 -- ---- lengths
 
-length-field : (bs : List ℕ) (x f v : ℕ) → length (setField bs x f v) ≡ length bs
+pub length-field : (bs : List ℕ) (x f v : ℕ) → length (setField bs x f v) ≡ length bs
 unfolding setField
 length-field bs x f v = length-set bs _ _
 
-length-record : (bs : List ℕ) (x k l r d c w : ℕ) → length (setRecord bs x k l r d c w) ≡ length bs
+pub length-record : (bs : List ℕ) (x k l r d c w : ℕ) → length (setRecord bs x k l r d c w) ≡ length bs
 unfolding setRecord
 length-record bs x k l r d c w = simp length-field
 
@@ -233,7 +233,7 @@ Apart f (clear y) = Unit {0}
 Apart f (mark-outside e) = f ≡ 5 → ⊥
 Apart f (mark-thing y) = f ≡ 5 → ⊥
 
-field-set : (bs : List ℕ) (y g v x f : ℕ) → length bs ≡ recordSize * numbers → y < numbers → g < 8 → f < 8
+pub field-set : (bs : List ℕ) (y g v x f : ℕ) → length bs ≡ recordSize * numbers → y < numbers → g < 8 → f < 8
     → field (setField bs y g v) x f ≡ cond (eqb f g && eqb x y) v (field bs x f)
 unfolding field setField
 field-set bs y g v x f l ly lg lf = go (either (eqb f g)) (either (eqb x y))
@@ -250,7 +250,7 @@ cond-ap : {A : Type 0} (t : ℕ → A) (b : Bool) (u v : ℕ) → t (cond b u v)
 cond-ap t true u v = refl
 cond-ap t false u v = refl
 
-field-record : (bs : List ℕ) (n k l r d c w x f : ℕ) → length bs ≡ recordSize * numbers → n < numbers → f < 8
+pub field-record : (bs : List ℕ) (n k l r d c w x f : ℕ) → length bs ≡ recordSize * numbers → n < numbers → f < 8
     → field (setRecord bs n k l r d c w) x f ≡ cond (eqb x n) (getD (k ∷ l ∷ r ∷ d ∷ c ∷ w ∷ 0 ∷ 0 ∷ []) f 0) (field bs x f)
 unfolding setRecord
 field-record bs n k l r d c w x f len ln = at f
