@@ -1,8 +1,8 @@
 -- A record read as two numbers of four bytes each, and the tests of soundness on these numbers.
 -- Assumes nothing.
-use mathlib.Core.Path.{_≡_, refl, sym, ap, ap₂, _∙_}
+use mathlib.Core.Path.{_≡_, sym, _∙_}
 use mathlib.Core.Logic.{_⊎_, inl, inr, ⊎-elim}
-use mathlib.Core.Bool.{Bool, true, false, not, _&&_, _||_, and-eq-true-iff, and-assoc, and-or-distrib-left, and-or-distrib-right, and-true, and-false, true≢false}
+use mathlib.Core.Bool.{Bool, true, false, not, _&&_, _||_, and-eq-true-iff, and-assoc, and-or-distrib-left, and-or-distrib-right, and-true, and-false}
 use mathlib.Core.List.{List}
 use Prim.Native.Nat.{ℕ, _+_, _-_, _*_, _/_, _%_, _<_, _≤_}
 use native.Mathlib.Omega.{arith}
@@ -16,7 +16,7 @@ use Rattle.bits.specs.AllLaws.{and-i, both-ways, either}
 use Rattle.bits.specs.BitLaws.{digit}
 use Rattle.levels.specs.declared.Order.{Order}
 use Rattle.records.specs.Records.{numbers, recordSize, rootSign, field, kind, level, readLevel, driver, container, marks, spare, isTask, isObject, freeRecord, taskRecord, objectRecord, soundRecord}
-use Rattle.records.specs.RecordLaws.{one-of-two, two-of, one-of-three, three-of, sound-task, sound-object, sound-else, field-past}
+use Rattle.records.specs.RecordLaws.{one-of-two, two-of, sound-task, sound-object, sound-else, field-past}
 
 -- four bytes as one number, the first lowest
 abbrev pub joined : ℕ → ℕ → ℕ → ℕ → ℕ

@@ -1,20 +1,19 @@
 -- What sound bytes give at each number, and what a store does to each field.
 -- Assumes nothing.
-use mathlib.Core.Path.{_≡_, refl, sym, ap, _∙_}
+use mathlib.Core.Path.{_≡_, sym, ap, _∙_}
 use mathlib.Core.Logic.{_⊎_, inl, inr, ⊎-elim}
-use mathlib.Core.Bool.{Bool, true, false, not, _&&_, _||_, and-eq-true-iff}
+use mathlib.Core.Bool.{Bool, true, false, not, cond, _&&_, _||_, and-eq-true-iff}
 use mathlib.Core.List.{List}
 use Prim.Native.Nat.{ℕ, _+_, _*_, _<_, _≤_}
 use native.Mathlib.Nat.{lt-of-not-le}
 use native.Mathlib.Omega.{arith}
 use lib.Dec.{ltb, eqb}
-use lib.ListN.{getD, length, List·getD-eq-default}
-use borrow.Author.Tests.{eqb-true, eqb-false, eq-eqb, ne-eqb, ltb-true, not-true}
-use Rattle.bits.specs.All.{allB}
+use lib.ListN.{length, length-set, List·getD-eq-default}
+use lib.Seq.{getD-set-same, getD-set-other}
+use borrow.Author.Tests.{eqb-true, eqb-false, eq-eqb, ne-eqb, ltb-true, ltb-false, lt-ltb, not-true}
 use Rattle.bits.specs.AllLaws.{all-at, all-i, all-fails, and-i, and-false, either, or-cases, or-l, or-r, or-false}
 use Rattle.levels.specs.declared.Order.{Order}
-use Rattle.levels.specs.Order.{inOrder}
-use Rattle.records.specs.Records.{numbers, recordSize, rootSign, field, kind, level, readLevel, driver, container, marks, spare, isTask, isObject, freeRecord, taskRecord, objectRecord, soundRecord, coreRecord, sound}
+use Rattle.records.specs.Records.{numbers, recordSize, rootSign, field, setField, setRecord, kind, level, readLevel, driver, container, marks, isTask, isObject, freeRecord, taskRecord, objectRecord, soundRecord, coreRecord, sound}
 
 -- ---- a number that is one of two or three
 
@@ -64,14 +63,228 @@ module _ (o : Order) (bs : List ℕ) (x : ℕ) where
   unfolding soundRecord
   sound-else t n = simp (not-task t, not-object n) (ap (λ (b : Bool). b || false) (or-false (freeRecord bs x)) ∙ or-false (freeRecord bs x))
 
--- ---- sound bytes, by their length, number 0 and each record
+-- ---- what the records that pass say, and what it takes to pass
+
+pub record TaskFacts (o : Order) (bs : List ℕ) (x : ℕ) : Type 0 where
+  pub level-in : level bs x < o .count
+  pub read-in : readLevel bs x < o .count
+  pub no-driver : driver bs x ≡ 0
+  pub no-container : container bs x ≡ 0
+  pub marking : ((marks bs x ≡ 0) ⊎ (marks bs x ≡ 1)) ⊎ (marks bs x ≡ 3)
+  pub spare-first : field bs x 6 ≡ 0
+  pub spare-last : field bs x 7 ≡ 0
+
+pub record ObjectFacts (o : Order) (bs : List ℕ) (x : ℕ) : Type 0 where
+  pub level-in : level bs x < o .count
+  pub no-read : readLevel bs x ≡ 0
+  pub driven : kind bs (driver bs x) ≡ 1
+  pub held : (container bs x ≡ rootSign) ⊎ ((kind bs (container bs x) ≡ 2) × (container bs x ≡ x → ⊥))
+  pub marking : (marks bs x ≡ 0) ⊎ (marks bs x ≡ 1)
+  pub spare-first : field bs x 6 ≡ 0
+  pub spare-last : field bs x 7 ≡ 0
+
+module _ (o : Order) (bs : List ℕ) (x : ℕ) where
+  pub free-facts : freeRecord bs x ≡ true → (f : ℕ) → f < recordSize → field bs x f ≡ 0
+  unfolding freeRecord
+  free-facts h f l = eqb-true _ _ (all-at recordSize (λ f. eqb (field bs x f) 0) h f l)
+
+  pub free-passes : ((f : ℕ) → f < recordSize → field bs x f ≡ 0) → soundRecord o bs x ≡ true
+  unfolding soundRecord freeRecord
+  free-passes h =
+      or-l (freeRecord bs x || taskRecord o bs x) (objectRecord o bs x)
+      (or-l (freeRecord bs x) (taskRecord o bs x) (all-i recordSize (λ f. eqb (field bs x f) 0) (λ f l. eq-eqb _ _ (h f l))))
+
+  task-facts-of : taskRecord o bs x ≡ true → TaskFacts o bs x
+  unfolding taskRecord
+  task-facts-of h =
+      let p = simp and-eq-true-iff at h in
+      record {
+        level-in = ltb-true _ _ (p .0 .0 .0 .0 .0 .1);
+        read-in = ltb-true _ _ (p .0 .0 .0 .0 .1);
+        no-driver = eqb-true _ _ (p .0 .0 .0 .1);
+        no-container = eqb-true _ _ (p .0 .0 .1);
+        marking = one-of-three _ 0 1 3 (p .0 .1);
+        spare-first = eqb-true _ _ (p .1 .0);
+        spare-last = eqb-true _ _ (p .1 .1);
+      }
+
+  pub task-passes : kind bs x ≡ 1 → TaskFacts o bs x → soundRecord o bs x ≡ true
+  unfolding taskRecord isTask
+  task-passes e t =
+      sound-task o bs x e
+      ∙ simp and-eq-true-iff (
+        (((((eq-eqb _ _ e, lt-ltb _ _ (t .level-in)), lt-ltb _ _ (t .read-in)), eq-eqb _ _ (t .no-driver)), eq-eqb _ _ (t .no-container)), three-of _ 0 1 3 (t .marking)),
+        (eq-eqb _ _ (t .spare-first), eq-eqb _ _ (t .spare-last)),
+      )
+
+  object-facts-of : objectRecord o bs x ≡ true → ObjectFacts o bs x
+  unfolding objectRecord isTask isObject
+  object-facts-of h =
+      let p = simp and-eq-true-iff at h in
+      record {
+        level-in = ltb-true _ _ (p .0 .0 .0 .0 .0 .1);
+        no-read = eqb-true _ _ (p .0 .0 .0 .0 .1);
+        driven = eqb-true _ _ (p .0 .0 .0 .1);
+        held =
+            ⊎-elim (λ r. inl (eqb-true _ _ r)) (λ q. let p = simp and-eq-true-iff at q in inr (eqb-true _ _ (p .0), eqb-false _ _ (not-true _ (p .1))))
+            (or-cases (eqb (container bs x) rootSign) (eqb (kind bs (container bs x)) 2 && not (eqb (container bs x) x)) (p .0 .0 .1));
+        marking = one-of-two _ 0 1 (p .0 .1);
+        spare-first = eqb-true _ _ (p .1 .0);
+        spare-last = eqb-true _ _ (p .1 .1);
+      }
+
+  pub object-passes : kind bs x ≡ 2 → ObjectFacts o bs x → soundRecord o bs x ≡ true
+  unfolding objectRecord isTask isObject
+  object-passes e t =
+      sound-object o bs x e
+      ∙ simp and-eq-true-iff (
+        (((((eq-eqb _ _ e, lt-ltb _ _ (t .level-in)), eq-eqb _ _ (t .no-read)), eq-eqb _ _ (t .driven)), held-by (t .held)), two-of _ 0 1 (t .marking)),
+        (eq-eqb _ _ (t .spare-first), eq-eqb _ _ (t .spare-last)),
+      )
+    where
+      held-by : (container bs x ≡ rootSign) ⊎ ((kind bs (container bs x) ≡ 2) × (container bs x ≡ x → ⊥))
+          → (eqb (container bs x) rootSign || (eqb (kind bs (container bs x)) 2 && not (eqb (container bs x) x))) ≡ true
+      held-by (inl r) = or-l (eqb (container bs x) rootSign) (eqb (kind bs (container bs x)) 2 && not (eqb (container bs x) x)) (eq-eqb (container bs x) rootSign r)
+      held-by (inr q) =
+          or-r (eqb (container bs x) rootSign) (eqb (kind bs (container bs x)) 2 && not (eqb (container bs x) x))
+          (simp (eq-eqb (kind bs (container bs x)) 2 (q .0), ne-eqb (container bs x) x (q .1)))
+
+-- ---- a sound record, by its kind
+
+module _ (o : Order) (bs : List ℕ) (x : ℕ) (h : soundRecord o bs x ≡ true) where
+  pub free-at : (kind bs x ≡ 1 → ⊥) → (kind bs x ≡ 2 → ⊥) → (f : ℕ) → f < recordSize → field bs x f ≡ 0
+  free-at t n = free-facts o bs x (sym (sound-else o bs x t n) ∙ h)
+
+  pub task-at : kind bs x ≡ 1 → TaskFacts o bs x
+  task-at e = task-facts-of o bs x (sym (sound-task o bs x e) ∙ h)
+
+  pub object-at : kind bs x ≡ 2 → ObjectFacts o bs x
+  object-at e = object-facts-of o bs x (sym (sound-object o bs x e) ∙ h)
+
+  pub kind-at : ((kind bs x ≡ 0) ⊎ (kind bs x ≡ 1)) ⊎ (kind bs x ≡ 2)
+  kind-at =
+      ⊎-elim
+      (λ t. inl (inr (eqb-true _ _ t)))
+      (λ t. ⊎-elim
+      (λ n. inr (eqb-true _ _ n))
+      (λ n. inl (inl (free-at (eqb-false _ _ t) (eqb-false _ _ n) 0 (omega arith))))
+      (either (eqb (kind bs x) 2)))
+      (either (eqb (kind bs x) 1))
+
+-- ---- sound bytes
 
 module _ (o : Order) (bs : List ℕ) where
   pub sound-i : length bs ≡ recordSize * numbers → coreRecord o bs ≡ true → ((x : ℕ) → x < numbers → soundRecord o bs x ≡ true) → sound o bs ≡ true
   unfolding sound
   sound-i long core each = and-i (and-i (eq-eqb _ _ long) core) (all-i numbers (λ x. soundRecord o bs x) each)
 
-  -- one record that is not fails them all
+  -- one record that is not sound fails them all
   pub unsound-at : (x : ℕ) → x < numbers → soundRecord o bs x ≡ false → sound o bs ≡ false
   unfolding sound
   unsound-at x l e = simp (all-fails numbers (λ x. soundRecord o bs x) x l e, and-false)
+
+module _ (o : Order) (bs : List ℕ) (ok : sound o bs ≡ true) where
+  pub long : length bs ≡ recordSize * numbers
+  unfolding sound
+  long = eqb-true _ _ ((simp and-eq-true-iff at ok) .0 .0)
+
+  pub core-at : coreRecord o bs ≡ true
+  unfolding sound
+  core-at = (simp and-eq-true-iff at ok) .0 .1
+
+  pub record-at : (x : ℕ) → x < numbers → soundRecord o bs x ≡ true
+  unfolding sound
+  record-at x l = all-at numbers (λ x. soundRecord o bs x) ((simp and-eq-true-iff at ok) .1) x l
+
+  -- number 0 is a task at the top level
+  pub core-task : kind bs 0 ≡ 1
+  unfolding coreRecord isTask
+  core-task = eqb-true _ _ ((simp and-eq-true-iff at core-at) .0)
+
+  pub core-top : level bs 0 ≡ o .top
+  unfolding coreRecord
+  core-top = eqb-true _ _ ((simp and-eq-true-iff at core-at) .1)
+
+  -- a number in use is one of the numbers
+  pub in-use : (x : ℕ) → (kind bs x ≡ 0 → ⊥) → x < numbers
+  in-use x n = lt-of-not-le (λ (h : numbers ≤ x). n (field-past bs x 0 long h))
+
+  pub task-facts : (x : ℕ) → kind bs x ≡ 1 → TaskFacts o bs x
+  task-facts x e = task-at o bs x (record-at x (in-use x (omega arith))) e
+
+  pub object-facts : (x : ℕ) → kind bs x ≡ 2 → ObjectFacts o bs x
+  object-facts x e = object-at o bs x (record-at x (in-use x (omega arith))) e
+
+  -- a free number has eight zeros, and so has a number past the end
+  pub free-fields : (x : ℕ) → kind bs x ≡ 0 → (f : ℕ) → f < recordSize → field bs x f ≡ 0
+  free-fields x e f l =
+      ⊎-elim
+      (λ b. free-at o bs x (record-at x (ltb-true _ _ b)) (omega arith) (omega arith) f l)
+      (λ p. field-past bs x f long (ltb-false _ _ p))
+      (either (ltb x numbers))
+
+  -- free, a task or an object
+  pub kinds : (x : ℕ) → ((kind bs x ≡ 0) ⊎ (kind bs x ≡ 1)) ⊎ (kind bs x ≡ 2)
+  kinds x =
+      ⊎-elim (λ b. kind-at o bs x (record-at x (ltb-true _ _ b))) (λ p. inl (inl (field-past bs x 0 long (ltb-false _ _ p)))) (either (ltb x numbers))
+
+-- ---- stores
+
+pub field-same : (bs : List ℕ) (x f v : ℕ) → recordSize * x + f < length bs → field (setField bs x f v) x f ≡ v
+unfolding field setField
+field-same bs x f v h = getD-set-same bs (recordSize * x + f) v 0 h
+
+-- another record, or another field
+pub field-else : (bs : List ℕ) (x f v x′ f′ : ℕ) → f < recordSize → f′ < recordSize → (x′ ≡ x → ⊥) ⊎ (f′ ≡ f → ⊥) → field (setField bs x f v) x′ f′ ≡ field bs x′ f′
+unfolding field setField
+field-else bs x f v x′ f′ l l′ n = getD-set-other bs (recordSize * x + f) (recordSize * x′ + f′) v 0 (λ e. ⊎-elim (λ m. m (omega arith)) (λ m. m (omega arith)) n)
+
+pub length-field : (bs : List ℕ) (x f v : ℕ) → length (setField bs x f v) ≡ length bs
+unfolding setField
+length-field bs x f v = length-set bs _ _
+
+-- ---- the whole record
+
+-- what a record with these fields says
+pub record Fields (bs : List ℕ) (x k l r d c m : ℕ) : Type 0 where
+  pub kind-is : kind bs x ≡ k
+  pub level-is : level bs x ≡ l
+  pub read-is : readLevel bs x ≡ r
+  pub driver-is : driver bs x ≡ d
+  pub container-is : container bs x ≡ c
+  pub marks-are : marks bs x ≡ m
+  pub first-is : field bs x 6 ≡ 0
+  pub last-is : field bs x 7 ≡ 0
+
+module _ (bs : List ℕ) (x k l r d c m : ℕ) where
+  pub length-record : length (setRecord bs x k l r d c m) ≡ length bs
+  unfolding setRecord
+  length-record = simp length-field
+
+  -- another record
+  pub record-else : (x′ f : ℕ) → (x′ ≡ x → ⊥) → f < recordSize → field (setRecord bs x k l r d c m) x′ f ≡ field bs x′ f
+  unfolding setRecord
+  record-else x′ f n h = simp step
+    where
+      step : (b : List ℕ) (g v : ℕ) → ltb g recordSize ≡ true → field (setField b x g v) x′ f ≡ field b x′ f
+      step b g v e = field-else b x g v x′ f (ltb-true g recordSize e) h (inl n)
+
+  pub record-same : length bs ≡ recordSize * numbers → x < numbers → Fields (setRecord bs x k l r d c m) x k l r d c m
+  unfolding setRecord
+  record-same e h =
+      record {
+        kind-is = simp (put, length-field, e);
+        level-is = simp (put, length-field, e);
+        read-is = simp (put, length-field, e);
+        driver-is = simp (put, length-field, e);
+        container-is = simp (put, length-field, e);
+        marks-are = simp (put, length-field, e);
+        first-is = simp (put, length-field, e);
+        last-is = simp (put, length-field, e);
+      }
+    where
+      put : (b : List ℕ) (g v f : ℕ) → length b ≡ recordSize * numbers → ltb g recordSize ≡ true → ltb f recordSize ≡ true → field (setField b x g v) x f ≡ cond (eqb f g) v (field b x f)
+      put b g v f w p q = ⊎-elim
+          (λ (t : eqb f g ≡ true). rw (t, eqb-true f g t) (field-same b x g v (omega (arith, ltb-true))))
+          (λ (t : eqb f g ≡ false). rw t (field-else b x g v x f (ltb-true _ _ p) (ltb-true _ _ q) (inr (eqb-false f g t))))
+          (either (eqb f g))

@@ -1,4 +1,3 @@
-use mathlib.Core.Path.{_≡_, ap₂, sym, _∙_}
 use mathlib.Core.Bool.{and-eq-true-iff}
 use borrow.Author.Needs.{needs}
 use borrow.Author.Tests.{ltb-true}
