@@ -3,3 +3,10 @@ pub mod Chains
 pub mod Claims
 pub mod Kept
 pub mod Soundness
+pub mod Invariant
+pub mod Follows
+pub mod Changes
+pub mod Preserve
+pub mod EventsKeep
+pub mod ItemsKeep
+pub mod Proved

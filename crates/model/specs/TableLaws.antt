@@ -11,7 +11,7 @@ use Rattle.bits.specs.AllLaws.{and-l, and-r}
 use Rattle.levels.specs.declared.Order.{Order}
 use Rattle.levels.specs.Order.{orderPasses}
 use Rattle.records.specs.Records.{sound}
-use Rattle.model.specs.Verdicts.{granted, slipped, row-state, row-order, isDone}
+use Rattle.model.specs.Verdicts.{granted, slipped, row-state, row-order, row-number, isDone}
 use Rattle.model.specs.State.{Memory, lengthsFit}
 use Rattle.model.specs.Effects.{effects}
 use Rattle.model.specs.Events.{Test, need, Event, Outcome, unless, firstFailing, verdictOf, outcome, read, write, execute, create, createRoot, move, delete, callTask, invoke, pass, post, find, mark, step}
@@ -22,10 +22,10 @@ use Rattle.model.specs.declared.Call.the-variants.{Start, Read, Write, E
 
 -- ---- tables
 
--- each row's number is a refusal's: of an event's table, this computes to true
+-- each row's number is a refusal's, after rows 2 and 3, which every call has: of an event's table, this computes to true
 abbrev pub refusals : List Test → Bool
 refusals [] = true
-refusals (need n ok ∷ rest) = leb 2 n && refusals rest
+refusals (need n ok ∷ rest) = leb row-number n && refusals rest
 
 -- each row's need holds: of an event's table, a tuple of facts, one a row
 abbrev pub Holds : List Test → Type 0
@@ -35,8 +35,8 @@ Holds (need n ok ∷ rest) = (ok ≡ true) × Holds rest
 pub failing-holds : (ts : List Test) (last : ℕ) → refusals ts ≡ true → isDone (firstFailing ts last) ≡ true → Holds ts
 unfolding firstFailing unless
 failing-holds [] last r h = tt
-failing-holds (need n true ∷ ts) last r h = (refl, failing-holds ts last (and-r (leb 2 n) (refusals ts) r) h)
-failing-holds (need n false ∷ ts) last r h = absurd (omega (arith, leb-true n slipped h, leb-true 2 n (and-l (leb 2 n) (refusals ts) r)))
+failing-holds (need n true ∷ ts) last r h = (refl, failing-holds ts last (and-r (leb row-number n) (refusals ts) r) h)
+failing-holds (need n false ∷ ts) last r h = absurd (omega (arith, leb-true n slipped h, leb-true row-number n (and-l (leb row-number n) (refusals ts) r)))
 
 pub holds-last : (ts : List Test) (last : ℕ) → Holds ts → firstFailing ts last ≡ last
 unfolding firstFailing unless

@@ -1,0 +1,159 @@
+-- The three kinds of change that keep the limits: of words, of the record of one number that is no task, and of marks.
+-- Assumes nothing.
+use mathlib.Core.Path.{_≡_, refl, sym, ap, subst, _∙_}
+use mathlib.Core.Bool.{Bool, true, false, not, _&&_, _||_, true≢false}
+use mathlib.Core.Logic.{_⊎_, inl, inr, ⊎-elim}
+use mathlib.Core.List.{List, List·Memᴰ}
+use Prim.Native.Nat.{ℕ, _+_, _*_, _≤_, _<_}
+use native.Mathlib.Omega.{arith}
+use lib.Dec.{eqb, ltb}
+use lib.ListN.{length, List·getD-eq-default}
+use borrow.Author.Tests.{eqb-true, eqb-false, ltb-true, ltb-false, eq-eqb}
+use Rattle.bits.specs.AllLaws.{either, or-cases, or-l, or-r, and-l, and-r, and-i}
+use Rattle.levels.specs.declared.Order.{Order}
+use Rattle.levels.specs.Order.{atOrBelow}
+use Rattle.levels.specs.OrderLaws.{IsOrder}
+use Rattle.records.specs.Records as records
+use Rattle.records.specs.Records.{numbers, recordSize, field, isTask, isObject}
+use Rattle.model.specs.State.{Memory, lengthsFit, inUse, task, object, levelOf, readLevelOf, driverOf, marked, hasFlow, hasRead}
+use Rattle.model.specs.Effects.{withWords, withBytes}
+use Rattle.containment.specs.Lists.{Standing}
+use Rattle.containment.specs.Claims.{Covered}
+use Rattle.containment.specs.Invariant.{standing, Ends, Bounded, MayFlow, MayRead, Limits, covered-below}
+use Rattle.containment.specs.Follows.{Same, Follows, same-task, same-object, same-use, object-used, task-used, covered-same, covered-follows, bounded-follows, limits-follow}
+
+-- ---- lengths
+
+module _ (m : Memory) (h : lengthsFit m ≡ true) where
+  pub bytes-length : length (m .bytes) ≡ 1024
+  unfolding lengthsFit
+  bytes-length = eqb-true _ _ (and-l (eqb (length (m .bytes)) 1024) _ h)
+
+  pub words-length : length (m .words) ≡ 768
+  unfolding lengthsFit
+  words-length = eqb-true _ _ (and-r (eqb (length (m .bytes)) 1024) _ h)
+
+  -- what is in use is one of the numbers
+  pub used-below : (x : ℕ) → inUse m x ≡ true → x < numbers
+  unfolding inUse field
+  used-below x u = ⊎-elim (λ l. ltb-true x numbers l) (λ g. absurd (true≢false (sym u ∙ past (ltb-false x numbers g)))) (either (ltb x numbers))
+    where
+      past : numbers ≤ x → inUse m x ≡ false
+      past g = rw (List·getD-eq-default (m .bytes) 0 {n = recordSize * x + 0} (omega (arith, bytes-length)))
+
+pub fits-same : (m n : Memory) → length (n .bytes) ≡ length (m .bytes) → length (n .words) ≡ length (m .words) → lengthsFit m ≡ true → lengthsFit n ≡ true
+unfolding lengthsFit
+fits-same m n b w h = rw (b, w) h
+
+is-number : (x p : ℕ) → (x ≡ p) ⊎ (x ≡ p → ⊥)
+is-number x p = ⊎-elim (λ e. inl (eqb-true x p e)) (λ e. inr (eqb-false x p e)) (either (eqb x p))
+
+-- ---- words
+
+pub words-limits : (s : Standing) (ws : List ℕ) → Limits s → length ws ≡ length (s .memory .words)
+    → ((x y : ℕ) → x < numbers → y < numbers → hasFlow (withWords (s .memory) ws) x y ≡ true → (hasFlow (s .memory) x y ≡ true) ⊎ MayFlow s x y)
+    → ((z x : ℕ) → z < numbers → x < numbers → hasRead (withWords (s .memory) ws) z x ≡ true → (hasRead (s .memory) z x ≡ true) ⊎ MayRead s z x)
+    → Limits (standing (s .order) (withWords (s .memory) ws) (s .outside))
+unfolding task object inUse marked
+words-limits s ws k l flows reads =
+    record {
+      fits = fits-same (s .memory) (withWords (s .memory) ws) refl l (k .fits);
+      bounded = λ x a.
+          let b = k .bounded x a in
+          record { driver-task = b .driver-task; driver-above = b .driver-above; driven-marked = b .driven-marked; mark-covered = b .mark-covered };
+      named = k .named;
+      flows = λ x y a b h. ⊎-elim (k .flows x y a b) (λ g. g) (flows x y a b h);
+      reads = λ z x a b h.
+          let r = ⊎-elim (k .reads z x a b) (λ (g : MayRead s z x). g) (reads z x a b h) in
+          record { reader = r .reader; source = r .source; path = r .path; honest = r .honest };
+    }
+
+-- ---- the record of one number p that is no task, and is free before or after
+
+module _ (o : Order) (m n : Memory) (ts : List ℕ) (p : ℕ) (k : Limits (standing o m ts)) (no-task : task m p ≡ false)
+    (off : (x f : ℕ) → f < 8 → (x ≡ p → ⊥) → field (n .bytes) x f ≡ field (m .bytes) x f) where
+  pub off-same : (x : ℕ) → (x ≡ p → ⊥) → Same m n x
+  off-same x h = record { kind = off x 0 (omega arith) h; level = off x 1 (omega arith) h; read-level = off x 2 (omega arith) h; driver = off x 3 (omega arith) h }
+
+  off-task : (x : ℕ) → task m x ≡ true → x ≡ p → ⊥
+  off-task x h e = true≢false (sym h ∙ ap (task m) e ∙ no-task)
+
+  pub task-same : (x : ℕ) → task m x ≡ true → Same m n x
+  task-same x h = off-same x (off-task x h)
+
+  off-marked : (x : ℕ) → (x ≡ p → ⊥) → marked n x ≡ marked m x
+  unfolding marked
+  off-marked x h = rw (off x 5 (omega arith) h)
+
+  pub task-marked : (x : ℕ) → task m x ≡ true → marked n x ≡ marked m x
+  task-marked x h = off-marked x (off-task x h)
+
+  pub one-follows : (inUse m p ≡ true → inUse n p ≡ true → ⊥)
+      → ((x y : ℕ) → x < numbers → y < numbers → hasFlow n x y ≡ true → (hasFlow m x y ≡ true) × (x ≡ p → ⊥) × (y ≡ p → ⊥))
+      → ((z x : ℕ) → z < numbers → x < numbers → hasRead n z x ≡ true → (hasRead m z x ≡ true) × (x ≡ p → ⊥)) → Follows o m n ts ts
+  one-follows apart flows reads =
+      record {
+        tasks = task-same;
+        marks = λ x h g. task-marked x h ∙ g;
+        things = λ x h g. ⊎-elim (λ (e : x ≡ p). absurd (apart (rw e at h) (rw e at g))) (off-same x) (is-number x p);
+        named = λ t h. h;
+        flows = λ x y a b h.
+            let f = flows x y a b h in
+            let j = k .flows x y a b (f .0) in
+            inl (f .0, same-use (off-same x (f .1)) ∙ j .0, same-use (off-same y (f .2)) ∙ j .1);
+        reads = λ z x a b h.
+            let f = reads z x a b h in
+            inl (f .0, same-use (off-same x (f .1)) ∙ object-used m x (k .reads z x a b (f .0) .source));
+      }
+
+  pub one-limits : Follows o m n ts ts → lengthsFit n ≡ true → Bounded (standing o n ts) p → Limits (standing o n ts)
+  one-limits f fits here = limits-follow f k fits (λ x l. ⊎-elim (λ (e : x ≡ p). rw e here) (other x l) (is-number x p)) named
+    where
+      other : (x : ℕ) → x < numbers → (x ≡ p → ⊥) → Bounded (standing o n ts) x
+      other x l d =
+          let b = k .bounded x l in
+          bounded-follows f x (off-same x d) b
+          (λ h g. off-marked x d ∙ b .driven-marked h (sym (task-marked _ (b .driver-task h)) ∙ g))
+          (λ h. covered-follows f _ (b .mark-covered (sym (off-marked x d) ∙ h)))
+
+      named : (t : ℕ) → List·Memᴰ t ts → (task n t ≡ true) × (records.marks (n .bytes) t ≡ 3)
+      named t h =
+          let j = k .named t h in
+          (same-task (task-same t (j .0)) ∙ j .0, off t 5 (omega arith) (off-task t (j .0)) ∙ j .1)
+
+-- ---- marks, and what the limits do not read
+
+module _ (o : Order) (m n : Memory) (ts us : List ℕ) (k : Limits (standing o m ts)) (words : n .words ≡ m .words)
+    (kept : (x f : ℕ) → f < 4 → field (n .bytes) x f ≡ field (m .bytes) x f)
+    (grow : (x : ℕ) → x < numbers → marked m x ≡ true → marked n x ≡ true)
+    (more : (t : ℕ) → List·Memᴰ t ts → List·Memᴰ t us) where
+  pub kept-same : (x : ℕ) → Same m n x
+  kept-same x = record { kind = kept x 0 (omega arith); level = kept x 1 (omega arith); read-level = kept x 2 (omega arith); driver = kept x 3 (omega arith) }
+
+  pub marks-follow : Follows o m n ts us
+  unfolding hasFlow hasRead
+  marks-follow =
+      record {
+        tasks = λ x h. kept-same x;
+        marks = λ x h. grow x (used-below m (k .fits) x (task-used m x h));
+        things = λ x h g. kept-same x;
+        named = more;
+        flows = λ x y a b h.
+            let g : hasFlow m x y ≡ true = rw words at h in
+            let j = k .flows x y a b g in
+            inl (g, same-use (kept-same x) ∙ j .0, same-use (kept-same y) ∙ j .1);
+        reads = λ z x a b h.
+            let g : hasRead m z x ≡ true = rw words at h in
+            inl (g, same-use (kept-same x) ∙ object-used m x (k .reads z x a b g .source));
+      }
+
+  -- what is marked is covered, and with a driver its objects are marked
+  pub marks-limits : length (n .bytes) ≡ length (m .bytes)
+      → ((x : ℕ) → x < numbers → marked n x ≡ true → Covered (standing o m us) (levelOf m x))
+      → ((x : ℕ) → x < numbers → object m x ≡ true → marked n (driverOf m x) ≡ true → marked n x ≡ true)
+      → ((t : ℕ) → List·Memᴰ t us → (task m t ≡ true) × (records.marks (n .bytes) t ≡ 3))
+      → Limits (standing o n us)
+  marks-limits len covers closed named =
+      limits-follow marks-follow k (fits-same m n len (ap length words) (k .fits))
+      (λ x l. bounded-follows marks-follow x (kept-same x) (k .bounded x l) (closed x l) (λ h. covered-same o us (λ y t. kept-same y) _ (covers x l h)))
+      (λ t h. (same-task (kept-same t) ∙ named t h .0, named t h .1))

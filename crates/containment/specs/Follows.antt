@@ -1,0 +1,124 @@
+-- What a change of the memory has to keep for the limits to stay.
+-- Assumes nothing.
+use mathlib.Core.Path.{_≡_, refl, sym, ap, _∙_}
+use mathlib.Core.Bool.{Bool, true, false, not, _&&_, _||_, true≢false}
+use mathlib.Core.Logic.{_⊎_, inl, inr, ⊎-elim}
+use mathlib.Core.List.{List, List·Memᴰ}
+use Prim.Native.Nat.{ℕ, _<_}
+use lib.Dec.{eqb}
+use borrow.Author.Tests.{eqb-true}
+use Rattle.levels.specs.declared.Order.{Order}
+use Rattle.levels.specs.Order.{atOrBelow}
+use Rattle.records.specs.Records as records
+use Rattle.records.specs.Records.{numbers, isTask, isObject}
+use Rattle.model.specs.State.{Memory, lengthsFit, inUse, task, object, levelOf, readLevelOf, driverOf, marked, hasFlow, hasRead}
+use Rattle.containment.specs.Lists.{Standing}
+use Rattle.containment.specs.Claims.{Covered}
+use Rattle.containment.specs.Invariant.{standing, Ends, Bounded, MayFlow, MayRead, Limits}
+
+-- what is read of x, but for its marks and its container, is the same
+pub record Same (m n : Memory) (x : ℕ) : Type 0 where
+  pub kind : records.kind (n .bytes) x ≡ records.kind (m .bytes) x
+  pub level : levelOf n x ≡ levelOf m x
+  pub read-level : readLevelOf n x ≡ readLevelOf m x
+  pub driver : driverOf n x ≡ driverOf m x
+
+module _ {m n : Memory} {x : ℕ} (e : Same m n x) where
+  pub same-task : task n x ≡ task m x
+  unfolding task isTask
+  same-task = rw (e .kind)
+
+  pub same-object : object n x ≡ object m x
+  unfolding object isObject
+  same-object = rw (e .kind)
+
+  pub same-use : inUse n x ≡ inUse m x
+  unfolding inUse
+  same-use = rw (e .kind)
+
+or-more : {b c : Bool} (a : Bool) → (b ≡ true → c ≡ true) → (a || b) ≡ true → (a || c) ≡ true
+or-more true h e = refl
+or-more false h e = h e
+
+pub object-used : (m : Memory) (x : ℕ) → object m x ≡ true → inUse m x ≡ true
+unfolding object isObject inUse
+object-used m x h = rw (eqb-true (records.kind (m .bytes) x) 2 h)
+
+pub task-used : (m : Memory) (x : ℕ) → task m x ≡ true → inUse m x ≡ true
+unfolding task isTask inUse
+task-used m x h = rw (eqb-true (records.kind (m .bytes) x) 1 h)
+
+-- what is covered stays so where the tasks stay
+pub covered-same : (o : Order) (ts : List ℕ) {m n : Memory} → ((x : ℕ) → task m x ≡ true → Same m n x) → (l : ℕ) → Covered (standing o m ts) l → Covered (standing o n ts) l
+covered-same o ts tasks l c =
+    let e = tasks (c .0) (c .2) in
+    (c .0, c .1, same-task e ∙ c .2, rw (e .level) (c .3))
+
+-- n comes after m, and the tasks us are named after ts
+pub record Follows (o : Order) (m n : Memory) (ts us : List ℕ) : Type 0 where
+  -- a task stays what it was, and marked
+  pub tasks : (x : ℕ) → task m x ≡ true → Same m n x
+  pub marks : (x : ℕ) → task m x ≡ true → marked m x ≡ true → marked n x ≡ true
+  -- what is in use before and after stays what it was
+  pub things : (x : ℕ) → inUse m x ≡ true → inUse n x ≡ true → Same m n x
+  pub named : (t : ℕ) → List·Memᴰ t ts → List·Memᴰ t us
+  -- a flow and a read access were there, or keep the limits
+  pub flows : (x y : ℕ) → x < numbers → y < numbers → hasFlow n x y ≡ true
+      → ((hasFlow m x y ≡ true) × (inUse n x ≡ true) × (inUse n y ≡ true)) ⊎ MayFlow (standing o n us) x y
+  pub reads : (z x : ℕ) → z < numbers → x < numbers → hasRead n z x ≡ true
+      → ((hasRead m z x ≡ true) × (inUse n x ≡ true)) ⊎ MayRead (standing o n us) z x
+
+module _ {o : Order} {m n : Memory} {ts us : List ℕ} (f : Follows o m n ts us) where
+  pub covered-follows : (l : ℕ) → Covered (standing o m ts) l → Covered (standing o n us) l
+  covered-follows l c = covered-same o us (f .tasks) l (c .0, f .named (c .0) (c .1), c .2, c .3)
+
+  pub ends-follows : (x y : ℕ) → Same m n x → Same m n y → Ends (standing o m ts) x y → Ends (standing o n us) x y
+  ends-follows x y d e (inl h) = inl (rw (d .level, e .level) h)
+  ends-follows x y d e (inr c) = inr (rw (e .level) (covered-follows _ c))
+
+  -- a record that is the same stays within its bounds, if its mark does
+  pub bounded-follows : (x : ℕ) → Same m n x → Bounded (standing o m ts) x → (object m x ≡ true → marked n (driverOf m x) ≡ true → marked n x ≡ true)
+      → (marked n x ≡ true → Covered (standing o n us) (levelOf m x)) → Bounded (standing o n us) x
+  bounded-follows x e b driven covered =
+      record {
+        driver-task = λ h.
+            let t = b .driver-task (sym (same-object e) ∙ h) in
+            rw (e .driver) (same-task (f .tasks (driverOf m x) t) ∙ t);
+        driver-above = λ h.
+            let g = sym (same-object e) ∙ h in
+            rw (e .driver, f .tasks (driverOf m x) (b .driver-task g) .level, e .level) (b .driver-above g);
+        driven-marked = λ h g. driven (sym (same-object e) ∙ h) (rw (e .driver) at g);
+        mark-covered = λ h. rw (e .level) (covered h);
+      }
+
+  module _ (k : Limits (standing o m ts)) where
+    flows-follow : (x y : ℕ) → x < numbers → y < numbers → hasFlow n x y ≡ true → MayFlow (standing o n us) x y
+    flows-follow x y a b h = ⊎-elim old (λ g. g) (f .flows x y a b h)
+      where
+        old : (hasFlow m x y ≡ true) × (inUse n x ≡ true) × (inUse n y ≡ true) → MayFlow (standing o n us) x y
+        old g =
+            let j = k .flows x y a b (g .0) in
+            (g .1, g .2, ends-follows x y (f .things x (j .0) (g .1)) (f .things y (j .1) (g .2)) (j .2))
+
+    reads-follow : (z x : ℕ) → z < numbers → x < numbers → hasRead n z x ≡ true → MayRead (standing o n us) z x
+    reads-follow z x a b h = ⊎-elim old (λ g. g) (f .reads z x a b h)
+      where
+        old : (hasRead m z x ≡ true) × (inUse n x ≡ true) → MayRead (standing o n us) z x
+        old g =
+            let j = k .reads z x a b (g .0) in
+            let d = driverOf m x in
+            let td = k .bounded x b .driver-task (j .source) in
+            let ez = f .tasks z (j .reader) in
+            let ex = f .things x (object-used m x (j .source)) (g .1) in
+            let ed = f .tasks d td in
+            record {
+              reader = same-task ez ∙ j .reader;
+              source = same-object ex ∙ j .source;
+              path = rw (ex .driver, ed .level, ez .level, ez .read-level) (j .path);
+              honest = rw (ex .driver, ex .level, ez .level, ez .read-level)
+                  (or-more (atOrBelow o (levelOf m z) (levelOf m x) || atOrBelow o (readLevelOf m z) (levelOf m x)) (f .marks d td) (j .honest));
+            }
+
+    pub limits-follow : lengthsFit n ≡ true → ((x : ℕ) → x < numbers → Bounded (standing o n us) x)
+        → ((t : ℕ) → List·Memᴰ t us → (task n t ≡ true) × (records.marks (n .bytes) t ≡ 3)) → Limits (standing o n us)
+    limits-follow l b t = record { fits = l; bounded = b; named = t; flows = flows-follow; reads = reads-follow }

@@ -1,0 +1,87 @@
+-- What every state reached from a start keeps, and how the limits on levels follow from one another.
+-- Assumes nothing.
+use mathlib.Core.Path.{_≡_, refl, sym}
+use mathlib.Core.Bool.{Bool, true, false, not, _&&_, _||_, true≢false}
+use mathlib.Core.Logic.{_⊎_, inl, inr, ⊎-elim}
+use mathlib.Core.List.{List, List·Memᴰ}
+use Prim.Native.Nat.{ℕ, _<_}
+use Rattle.bits.specs.AllLaws.{either, or-cases}
+use Rattle.levels.specs.declared.Order.{Order}
+use Rattle.levels.specs.Order.{atOrBelow, orderPasses}
+use Rattle.levels.specs.OrderLaws.{IsOrder, is-order}
+use Rattle.records.specs.Records.{numbers, marks, sound}
+use Rattle.model.specs.State.{Memory, lengthsFit, inUse, task, object, levelOf, readLevelOf, driverOf, marked, hasFlow, hasRead}
+use Rattle.model.specs.Events.{risky}
+use Rattle.containment.specs.Lists.{Standing}
+use Rattle.containment.specs.Claims.{Covered, Contained}
+
+abbrev pub standing : Order → Memory → List ℕ → Standing
+standing o m ts = record { order = o; memory = m; outside = ts }
+
+-- a flow from x to y is within the limits: y is at or below x, or covered
+abbrev pub Ends : Standing → ℕ → ℕ → Type 0
+Ends s x y = (atOrBelow (s .order) (levelOf (s .memory) y) (levelOf (s .memory) x) ≡ true) ⊎ Covered s (levelOf (s .memory) y)
+
+-- what holds of the record of x
+pub record Bounded (s : Standing) (x : ℕ) : Type 0 where
+  -- an object's driver is a task, at or above it
+  pub driver-task : object (s .memory) x ≡ true → task (s .memory) (driverOf (s .memory) x) ≡ true
+  pub driver-above : object (s .memory) x ≡ true → atOrBelow (s .order) (levelOf (s .memory) x) (levelOf (s .memory) (driverOf (s .memory) x)) ≡ true
+  pub driven-marked : object (s .memory) x ≡ true → marked (s .memory) (driverOf (s .memory) x) ≡ true → marked (s .memory) x ≡ true
+  pub mark-covered : marked (s .memory) x ≡ true → Covered s (levelOf (s .memory) x)
+
+-- the read access of z to x passed the path test, and the honest test unless x's driver is marked
+pub record MayRead (s : Standing) (z x : ℕ) : Type 0 where
+  pub reader : task (s .memory) z ≡ true
+  pub source : object (s .memory) x ≡ true
+  pub path : (atOrBelow (s .order) (levelOf (s .memory) z) (levelOf (s .memory) (driverOf (s .memory) x))
+      || atOrBelow (s .order) (readLevelOf (s .memory) z) (levelOf (s .memory) (driverOf (s .memory) x))) ≡ true
+  pub honest : (atOrBelow (s .order) (levelOf (s .memory) z) (levelOf (s .memory) x)
+      || atOrBelow (s .order) (readLevelOf (s .memory) z) (levelOf (s .memory) x)
+      || marked (s .memory) (driverOf (s .memory) x)) ≡ true
+
+-- a recorded flow joins things in use, within the limits
+abbrev pub MayFlow : Standing → ℕ → ℕ → Type 0
+MayFlow s x y = (inUse (s .memory) x ≡ true) × (inUse (s .memory) y ≡ true) × Ends s x y
+
+-- what the effects keep, under an order that passes
+pub record Limits (s : Standing) : Type 0 where
+  pub fits : lengthsFit (s .memory) ≡ true
+  pub bounded : (x : ℕ) → x < numbers → Bounded s x
+  pub named : (t : ℕ) → List·Memᴰ t (s .outside) → (task (s .memory) t ≡ true) × (marks (s .memory .bytes) t ≡ 3)
+  pub flows : (x y : ℕ) → x < numbers → y < numbers → hasFlow (s .memory) x y ≡ true → MayFlow s x y
+  pub reads : (z x : ℕ) → z < numbers → x < numbers → hasRead (s .memory) z x ≡ true → MayRead s z x
+
+pub record Invariant (s : Standing) : Type 0 where
+  pub passes : orderPasses (s .order) ≡ true
+  pub is-sound : sound (s .order) (s .memory .bytes) ≡ true
+  pub limits : Limits s
+
+-- demand 3 is a part of it
+pub contained : (s : Standing) → Limits s → Contained s
+contained s k =
+    record {
+      marks-covered = λ x l. k .bounded x l .mark-covered;
+      flows-join = λ x y a b h. (k .flows x y a b h .0, k .flows x y a b h .1);
+      flows-end = λ x y a b h. k .flows x y a b h .2;
+    }
+
+-- ---- how the limits follow from one another
+module _ (s : Standing) (ok : IsOrder (s .order)) where
+  -- what is at or below a covered level is covered
+  pub covered-below : (a b : ℕ) → atOrBelow (s .order) a b ≡ true → Covered s b → Covered s a
+  covered-below a b h c = (c .0, c .1, c .2, ok .trans a b (levelOf (s .memory) (c .0)) h (c .3))
+
+  pub ends-trans : (x z y : ℕ) → Ends s x z → Ends s z y → Ends s x y
+  ends-trans x z y p (inr c) = inr c
+  ends-trans x z y (inl h) (inl g) = inl (ok .trans _ _ _ g h)
+  ends-trans x z y (inr c) (inl g) = inr (covered-below _ _ g c)
+
+  module _ (k : Limits s) where
+    -- what ends at a marked thing, or at or below one
+    pub ends-marked : (x y : ℕ) → y < numbers → marked (s .memory) y ≡ true → Ends s x y
+    ends-marked x y l h = inr (k .bounded y l .mark-covered h)
+
+    pub ends-below-marked : (x d y : ℕ) → d < numbers → marked (s .memory) d ≡ true → atOrBelow (s .order) (levelOf (s .memory) y) (levelOf (s .memory) d) ≡ true
+        → Ends s x y
+    ends-below-marked x d y l h g = inr (covered-below _ _ g (k .bounded d l .mark-covered h))

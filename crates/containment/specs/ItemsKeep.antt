@@ -1,0 +1,182 @@
+-- A start establishes the invariant, and every item of a list keeps it.
+-- Assumes nothing.
+use mathlib.Core.Path.{_≡_, refl, sym, ap, subst, _∙_}
+use mathlib.Core.Bool.{Bool, true, false, not, _&&_, _||_, and-eq-true-iff, true≢false, false≢true}
+use mathlib.Core.Logic.{_⊎_, inl, inr, ⊎-elim}
+use mathlib.Core.List.{List, [], _∷_, List·Memᴰ, List·Memᴰ·not-nil}
+use Prim.Native.Nat.{ℕ, zero, suc, _+_, _*_, _≤_, _<_}
+use native.Mathlib.Omega.{arith}
+use lib.Dec.{eqb, ltb}
+use lib.ListN.{length, getD, replicate, length-replicate}
+use borrow.Author.Tests.{eq-eqb, eqb-true, ltb-true}
+use Rattle.bits.specs.AllLaws.{either, and-i, all-at}
+use Rattle.rows.specs.RowLaws.{cell-zeros}
+use Rattle.levels.specs.declared.Order.{Order}
+use Rattle.levels.specs.Order.{atOrBelow, orderPasses}
+use Rattle.levels.specs.OrderLaws.{IsOrder, is-order}
+use Rattle.records.specs.Records.{numbers, recordSize, field, isTask, isObject, taskRecord, soundRecord, sound}
+use Rattle.records.specs.RecordLaws.{sound-task}
+use Rattle.model.specs.declared.Call.{Call}
+use Rattle.model.specs.declared.Call.the-variants.{Start, Read, Write, Execute, Create, CreateRoot, Move, Delete, CallTask, Invoke, Pass, Post, Find, Mark, Step, Spread}
+use Rattle.model.specs.Verdicts.{isDone}
+use Rattle.model.specs.State.{Memory, memory, rowSize, tables, lengthsFit, inUse, task, object, levelOf, driverOf, marked, hasFlow, hasRead}
+use Rattle.model.specs.Effects.{make-task, mark-outside, effect, effects}
+use Rattle.model.specs.Events.{Event, Outcome, outcome, read, write, execute, create, createRoot, move, delete, callTask, invoke, pass, post, find, mark, step}
+use Rattle.model.specs.Spread.{spread, marksSome}
+use Rattle.model.specs.Monitor.{fitted, started, start, perform}
+use Rattle.model.specs.MarkLaws.{MoreMarks, kept-marked, kept-object, kept-driver}
+use Rattle.model.specs.SpreadLaws.{Closed, rest-closed, sized-more, spread-more, spread-only, spread-rests}
+use Rattle.model.specs.TableLaws.{Holds, refusals, event-done, fitted-done, start-done, refused-keeps}
+use Rattle.containment.specs.Lists.{Item, asks, reports, Standing, Role, starting, marking, other, role, entered, next, run, Admitted, Admissible}
+use Rattle.containment.specs.Claims.{Covered}
+use Rattle.containment.specs.Soundness.{leaves-sound}
+use Rattle.containment.specs.Invariant.{standing, Limits, Invariant, covered-below}
+use Rattle.containment.specs.Follows.{same-object, task-used}
+use Rattle.containment.specs.Changes.{bytes-length, used-below, kept-same, marks-limits}
+use Rattle.containment.specs.Preserve.{AllAllowed, bounded-none, effect-keeps, effects-keep, outside-keeps, marked-3}
+use Rattle.containment.specs.EventsKeep.{read-allowed, write-allowed, execute-allowed, create-allowed, createRoot-allowed, move-allowed, delete-allowed, call-allowed, invoke-allowed, pass-allowed, post-allowed, find-allowed, step-allowed, fed-covered}
+
+-- ---- a start makes a task in an empty memory
+
+empty : Memory
+empty = memory (replicate (recordSize * numbers) 0) (replicate (rowSize * (numbers * tables)) 0)
+
+getD-zeros : (n i : ℕ) → _≡_ {A = ℕ} (getD (replicate n 0) i 0) 0
+getD-zeros zero i = refl
+getD-zeros (suc n) zero = refl
+getD-zeros (suc n) (suc i) = getD-zeros n i
+
+empty-field : (x f : ℕ) → field (empty .bytes) x f ≡ 0
+unfolding field empty
+empty-field x f = getD-zeros (recordSize * numbers) (recordSize * x + f)
+
+empty-limits : (o : Order) → Limits (standing o empty [])
+unfolding lengthsFit object isObject marked hasFlow hasRead empty
+empty-limits o =
+    record {
+      fits = and-i (eq-eqb _ _ (length-replicate {A = ℕ} (recordSize * numbers) 0)) (eq-eqb _ _ (length-replicate {A = ℕ} (rowSize * (numbers * tables)) 0));
+      bounded = λ x l. bounded-none (standing o empty []) x (rw (empty-field x 0)) (rw (empty-field x 5));
+      named = λ t h. absurd (List·Memᴰ·not-nil h);
+      flows = λ x y a b h. absurd (true≢false (sym h ∙ cell-zeros rowSize (rowSize * (numbers * tables)) _ y));
+      reads = λ z x a b h. absurd (true≢false (sym h ∙ cell-zeros rowSize (rowSize * (numbers * tables)) _ x));
+    }
+
+started-limits : (o : Order) → IsOrder o → Limits (standing o (started o) [])
+unfolding started effect empty inUse
+started-limits o ok = effect-keeps (standing o empty []) ok (empty-limits o) (make-task 0 (o .top) (o .top)) (omega arith, rw (empty-field 0 0))
+
+pub start-keeps : (o : Order) (m : Memory) → isDone (perform o m Start .verdict) ≡ true → Invariant (standing o (perform o m Start .memory) [])
+start-keeps o m h =
+    let d = start-done o m h in
+    record { passes = d .1; is-sound = leaves-sound o m Start h .1; limits = rw (d .2) (started-limits o (is-order o (d .1))) }
+
+-- ---- a spread marks only what is covered, and rests with every driver's objects marked
+
+spread-limits : (s : Standing) → IsOrder (s .order) → Limits s → Limits (standing (s .order) (spread (s .memory) .memory) (s .outside))
+spread-limits s ok k =
+    marks-limits (s .order) m n (s .outside) (s .outside) k (g .words-kept) kept (λ x l. kept-marked g x) (λ t h. h) (g .length-kept)
+    (λ x l h. spread-only Q m closed sized (λ y a b. (a, k .bounded y a .mark-covered b)) x l h .1)
+    (λ x l h d. rest-closed n (sized-more g sized) (spread-rests m sized) .by-driver (driverOf m x) x d l (kept-object g x ∙ h) (kept-driver g x))
+    (λ t h. let j = k .named t h in (j .0, g .marks-kept t (marked-3 s ok k t (j .1)) ∙ j .1))
+  where
+    m : Memory
+    m = s .memory
+
+    n : Memory
+    n = spread m .memory
+
+    g : MoreMarks m n
+    g = spread-more m
+
+    sized : length (m .bytes) ≡ recordSize * numbers
+    sized = bytes-length m (k .fits)
+
+    kept : (x f : ℕ) → f < 4 → field (n .bytes) x f ≡ field (m .bytes) x f
+    kept x f l = g .bytes-kept x f (omega arith) (omega arith)
+
+    Q : ℕ → Type 0
+    Q x = (x < numbers) × Covered s (levelOf m x)
+
+    closed : Closed m Q
+    closed =
+        record {
+          by-flow = λ x y q l u f. (l, ⊎-elim (λ h. covered-below s ok _ _ h (q .1)) (λ c. c) (k .flows x y (q .0) l f .2));
+          by-driver = λ x y q l h d. (l, covered-below s ok _ _ (k .bounded y l .driver-above h) (rw d (q .1)));
+        }
+
+-- ---- a call that is done
+
+-- a sound task's level is in the order
+task-self : (s : Standing) → Invariant s → (e : ℕ) → task (s .memory) e ≡ true → atOrBelow (s .order) (levelOf (s .memory) e) (levelOf (s .memory) e) ≡ true
+unfolding sound taskRecord task isTask
+task-self s i e t =
+    let p = simp and-eq-true-iff at (i .is-sound) in
+    let r = all-at numbers (λ x. soundRecord (s .order) (s .memory .bytes) x) (p .1) e (used-below (s .memory) (i .limits .fits) e (task-used (s .memory) e t)) in
+    let q = simp and-eq-true-iff at (sym (sound-task (s .order) (s .memory .bytes) e (eqb-true _ 1 t)) ∙ r) in
+    is-order (s .order) (i .passes) .self _ (ltb-true _ _ (q .0 .0 .0 .0 .0 .1))
+
+abbrev NoStart : Role → Type 0
+NoStart starting = ⊥
+NoStart (marking e) = Unit {0}
+NoStart other = Unit {0}
+
+module _ (s : Standing) (i : Invariant s) (o : Order) where
+  ok : IsOrder (s .order)
+  ok = is-order (s .order) (i .passes)
+
+  -- a call that is no start is done under the order of the last granted one
+  same-order : (r : Role) {D : Type 0} → NoStart r → (r ≡ starting) ⊎ (D → o ≡ s .order) → D → o ≡ s .order
+  same-order r n a d = ⊎-elim (λ e. absurd (subst NoStart e n)) (λ f. f d) a
+
+  later : (m : Memory) (ts : List ℕ) → o ≡ s .order → sound o (m .bytes) ≡ true → Limits (standing (s .order) m ts) → Invariant (standing (s .order) m ts)
+  later m ts q l k = record { passes = i .passes; is-sound = rw q at l; limits = k }
+
+  event-keeps : (e : Order → Event) → refusals (e o .tests) ≡ true
+      → (other ≡ starting) ⊎ (isDone (fitted o (s .memory) (outcome (s .memory) (e o)) .verdict) ≡ true → o ≡ s .order)
+      → (Holds (e (s .order) .tests) → AllAllowed s (e (s .order) .effects))
+      → isDone (fitted o (s .memory) (outcome (s .memory) (e o)) .verdict) ≡ true
+      → sound o (fitted o (s .memory) (outcome (s .memory) (e o)) .memory .bytes) ≡ true
+      → Invariant (standing (s .order) (fitted o (s .memory) (outcome (s .memory) (e o)) .memory) (s .outside))
+  event-keeps e r a allowed h l =
+      let q = same-order other tt a h in
+      let d = event-done o (s .memory) (e o) r h in
+      let f = subst (λ (p : Order). Holds (e p .tests) → AllAllowed s (e p .effects)) (sym q) allowed in
+      later _ (s .outside) q l (rw (d .leaves) (effects-keep s ok (i .limits) (e o .effects) (f (d .tests))))
+
+  done-keeps : (c : Call) → Admitted (asks o c) s → isDone (perform o (s .memory) c .verdict) ≡ true → sound o (perform o (s .memory) c .memory .bytes) ≡ true
+      → Invariant (entered (role c) o (perform o (s .memory) c .memory) s)
+  unfolding entered read write execute create createRoot move delete callTask invoke pass post find mark step effects
+  done-keeps Start a h l = start-keeps o (s .memory) h
+  done-keeps (Read e d x) a h l = event-keeps (λ p. read p (s .memory) e d x) refl a (read-allowed s ok (i .limits) e d x) h l
+  done-keeps (Write e d x) a h l = event-keeps (λ p. write p (s .memory) e d x) refl a (write-allowed s ok (i .limits) e d x) h l
+  done-keeps (Execute c g n v r) a h l = event-keeps (λ p. execute p (s .memory) c g n v r) refl a (execute-allowed s ok (i .limits) c g n v r) h l
+  done-keeps (Create c d n k v) a h l = event-keeps (λ p. create p (s .memory) c d n k v) refl a (create-allowed s ok (i .limits) c d n k v) h l
+  done-keeps (CreateRoot c d n v) a h l = event-keeps (λ p. createRoot p (s .memory) c d n v) refl a (createRoot-allowed s ok (i .limits) c d n v) h l
+  done-keeps (Move e d x f t) a h l = event-keeps (λ p. move p (s .memory) e d x f t) refl a (move-allowed s ok (i .limits) e d x f t) h l
+  done-keeps (Delete e d x k) a h l = event-keeps (λ p. delete p (s .memory) e d x k) refl a (delete-allowed s ok (i .limits) e d x k) h l
+  done-keeps (CallTask x y) a h l = event-keeps (λ p. callTask p (s .memory) x y) refl a (call-allowed s ok (i .limits) x y) h l
+  done-keeps (Invoke x y) a h l = event-keeps (λ p. invoke p (s .memory) x y) refl a (invoke-allowed s ok (i .limits) x y) h l
+  done-keeps (Pass z x y) a h l = event-keeps (λ p. pass p (s .memory) z x y) refl a (pass-allowed s ok (i .limits) z x y) h l
+  done-keeps (Post x z y) a h l = event-keeps (λ p. post p (s .memory) x z y) refl a (post-allowed s ok (i .limits) x z y) h l
+  done-keeps (Find x z y) a h l = event-keeps (λ p. find p (s .memory) x z y) refl a (find-allowed s ok (i .limits) x z y) h l
+  done-keeps (Mark e) a h l =
+      let d = event-done o (s .memory) (mark o (s .memory) e) refl h in
+      later _ (e ∷ s .outside) (same-order (marking e) tt a h) l
+      (rw (d .leaves) (outside-keeps s ok (i .limits) e (d .tests .0) (task-self s i e (d .tests .0))))
+  done-keeps (Step x) a h l = event-keeps (λ p. step p (s .memory) x) refl a (step-allowed s ok (i .limits) x) h l
+  done-keeps Spread a h l =
+      later _ (s .outside) (same-order other tt a h) l (rw (fitted-done o (s .memory) (spread (s .memory)) h .inner) (spread-limits s ok (i .limits)))
+
+-- ---- every item, and every list
+
+next-keeps : (x : Item) (s : Standing) → Invariant s → Admitted x s → Invariant (next x s)
+unfolding next
+next-keeps (asks o c) s i a =
+    ⊎-elim (λ h. rw h (done-keeps s i o c a h (leaves-sound o (s .memory) c h .1))) (λ h. rw h (rw (refused-keeps o (s .memory) c h) i))
+    (either (isDone (perform o (s .memory) c .verdict)))
+next-keeps (reports o) s i a = i
+
+pub run-keeps : (is : List Item) (s : Standing) → Invariant s → Admissible is s → Invariant (run is s)
+unfolding run
+run-keeps [] s i a = i
+run-keeps (x ∷ is) s i a = run-keeps is (next x s) (next-keeps x s i (a .0)) (a .1)

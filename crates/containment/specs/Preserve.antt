@@ -1,0 +1,351 @@
+-- Each effect keeps the limits, where it is allowed.
+-- Assumes nothing.
+use mathlib.Core.Path.{_≡_, refl, sym, ap, subst, _∙_}
+use mathlib.Core.Bool.{Bool, true, false, not, cond, _&&_, _||_, and-eq-true-iff, true≢false}
+use mathlib.Core.Logic.{_⊎_, inl, inr, ⊎-elim}
+use mathlib.Core.List.{List, [], _∷_, List·Memᴰ, List·Memᴰ·head, List·Memᴰ·tail, List·Memᴰ·cases-cons}
+use Prim.Native.Nat.{ℕ, _+_, _*_, _≤_, _<_}
+use lib.Dec.{eqb}
+use lib.ListN.{length}
+use borrow.Author.Tests.{eqb-true, eqb-false, eq-eqb, ne-eqb, not-true}
+use native.Mathlib.Omega.{arith}
+use Rattle.bits.specs.AllLaws.{or-cases, or-l, or-r, and-l, and-r, and-i, and-false, not-so}
+use Rattle.levels.specs.declared.Order.{Order}
+use Rattle.levels.specs.Order.{atOrBelow}
+use Rattle.levels.specs.OrderLaws.{IsOrder}
+use Rattle.records.specs.Records as records
+use Rattle.records.specs.Records.{numbers, field, isTask, isObject}
+use Rattle.model.specs.State.{Memory, lengthsFit, inUse, task, object, levelOf, readLevelOf, driverOf, marked, hasFlow, hasRead}
+use Rattle.model.specs.Effects.{Effect, flow, flow-if, read-access, write-access, make-task, make-object, move-to, clear, mark-outside, mark-thing, objectOf, effect, effects}
+use Rattle.model.specs.MarkLaws.{where-words, where-field, where-kept}
+use Rattle.model.specs.EffectLaws.{Long, fit-long, long-fits, Fits, Apart, effect-long, effect-bytes, effect-words, flow-after, read-after, byte-after, inUse-after, object-after, level-after, driver-after, marks-after, marked-after, outside-marks, outside-marked, thing-marked, thing-marks}
+use Rattle.containment.specs.Lists.{Standing}
+use Rattle.containment.specs.Claims.{Covered}
+use Rattle.containment.specs.Invariant.{standing, Ends, Bounded, MayFlow, MayRead, Limits, covered-below}
+use Rattle.containment.specs.Follows.{Same, Follows, same-task, task-used, object-used, covered-follows}
+use Rattle.containment.specs.Changes.{used-below, words-limits, off-same, task-same, task-marked, one-follows, one-limits, marks-follow, marks-limits}
+
+abbrev pub after : Standing → Effect → Standing
+after s e = standing (s .order) (effect e (s .memory)) (s .outside)
+
+-- a free number may become an object of the task d, at or below it and marked like it
+pub record MayMake (s : Standing) (n l d : ℕ) (b : Bool) : Type 0 where
+  pub below : n < numbers
+  pub free : inUse (s .memory) n ≡ false
+  pub driver : task (s .memory) d ≡ true
+  pub above : atOrBelow (s .order) l (levelOf (s .memory) d) ≡ true
+  pub mark : b ≡ marked (s .memory) d
+
+-- what the limits ask of an effect; marking from outside names one more task, and stands apart
+abbrev pub Allowed : Standing → Effect → Type 0
+Allowed s (flow x y) = MayFlow s x y
+Allowed s (flow-if b x y) = b ≡ true → MayFlow s x y
+Allowed s (read-access z x) = MayRead s z x
+Allowed s (write-access z x) = (inUse (s .memory) z ≡ true) × (inUse (s .memory) x ≡ true)
+Allowed s (make-task n l r) = (n < numbers) × (inUse (s .memory) n ≡ false)
+Allowed s (make-object n l d c b) = MayMake s n l d b
+Allowed s (move-to x c) = object (s .memory) x ≡ true
+Allowed s (clear x) = object (s .memory) x ≡ true
+Allowed s (mark-outside e) = ⊥
+Allowed s (mark-thing x) = (inUse (s .memory) x ≡ true) × Covered s (levelOf (s .memory) x)
+
+abbrev pub AllAllowed : Standing → List Effect → Type 0
+AllAllowed s [] = Unit {0}
+AllAllowed s (e ∷ es) = Allowed s e × AllAllowed (after s e) es
+
+-- ---- flows and accesses
+
+added : (P : ℕ → ℕ → Type 0) (b : Bool) (u v x y : ℕ) → P x y → (b || (eqb u x && eqb v y)) ≡ true → (b ≡ true) ⊎ P u v
+added P b u v x y p h = ⊎-elim (λ e. inl e) new (or-cases b (eqb u x && eqb v y) h)
+  where
+    new : (eqb u x && eqb v y) ≡ true → (b ≡ true) ⊎ P u v
+    new e =
+        let d = simp and-eq-true-iff at e in
+        inr (rw (eqb-true u x (d .0), eqb-true v y (d .1)) p)
+
+-- a record that is no object and has no mark
+pub bounded-none : (s : Standing) (x : ℕ) → object (s .memory) x ≡ false → marked (s .memory) x ≡ false → Bounded s x
+bounded-none s x no-object no-mark =
+    record {
+      driver-task = λ h. absurd (true≢false (sym h ∙ no-object));
+      driver-above = λ h. absurd (true≢false (sym h ∙ no-object));
+      driven-marked = λ h. absurd (true≢false (sym h ∙ no-object));
+      mark-covered = λ h. absurd (true≢false (sym h ∙ no-mark));
+    }
+
+module _ (s : Standing) (ok : IsOrder (s .order)) (k : Limits s) where
+  abbrev o : Order
+  o = s .order
+
+  abbrev m : Memory
+  m = s .memory
+
+  long : Long m
+  long = fit-long m (k .fits)
+
+  below : (x : ℕ) → inUse m x ≡ true → x < numbers
+  below = used-below m (k .fits)
+
+  flow-keeps : (x y : ℕ) → MayFlow s x y → Limits (after s (flow x y))
+  unfolding effect
+  flow-keeps x y a =
+      words-limits s _ k (effect-words (flow x y) m)
+      (λ u v lu lv h. added (MayFlow s) _ u v x y a (sym (flow-after u v lu lv (flow x y) m long fits) ∙ h))
+      (λ z u lz lu h. inl (sym (read-after z u lz lu (flow x y) m long fits) ∙ h))
+    where
+      fits : Fits (flow x y)
+      fits = (below x (a .0), below y (a .1))
+
+  read-keeps : (z x : ℕ) → MayRead s z x → Limits (after s (read-access z x))
+  unfolding effect
+  read-keeps z x a =
+      words-limits s _ k (effect-words (read-access z x) m)
+      (λ u v lu lv h. inl (sym (flow-after u v lu lv (read-access z x) m long fits) ∙ h))
+      (λ u v lu lv h. added (MayRead s) _ u v z x a (sym (read-after u v lu lv (read-access z x) m long fits) ∙ h))
+    where
+      fits : Fits (read-access z x)
+      fits = (below z (task-used m z (a .reader)), below x (object-used m x (a .source)))
+
+  write-keeps : (z x : ℕ) → inUse m z ≡ true → inUse m x ≡ true → Limits (after s (write-access z x))
+  unfolding effect
+  write-keeps z x a b =
+      words-limits s _ k (effect-words (write-access z x) m)
+      (λ u v lu lv h. inl (sym (flow-after u v lu lv (write-access z x) m long (below z a, below x b)) ∙ h))
+      (λ u v lu lv h. inl (sym (read-after u v lu lv (write-access z x) m long (below z a, below x b)) ∙ h))
+
+  -- ---- a free number becomes a task or an object
+
+  module _ (e : Effect) (n : ℕ) (free : inUse m n ≡ false) (off : (x f : ℕ) → f < 8 → (x ≡ n → ⊥) → field (effect e m .bytes) x f ≡ field (m .bytes) x f) where
+    used-off : (x : ℕ) → inUse m x ≡ true → x ≡ n → ⊥
+    used-off x u d = true≢false (sym u ∙ ap (inUse m) d ∙ free)
+
+    free-task : task m n ≡ false
+    free-task = not-so (task m n) (λ h. true≢false (sym (task-used m n h) ∙ free))
+
+    made-follows : effect e m .words ≡ m .words → Follows o m (effect e m) (s .outside) (s .outside)
+    unfolding hasFlow hasRead
+    made-follows words =
+        one-follows o m (effect e m) (s .outside) n k free-task off (λ h g. true≢false (sym h ∙ free))
+        (λ x y a b h.
+        let g : hasFlow m x y ≡ true = rw words at h in
+        let j = k .flows x y a b g in
+        (g, used-off x (j .0), used-off y (j .1)))
+        (λ z x a b h. let g : hasRead m z x ≡ true = rw words at h in (g, used-off x (object-used m x (k .reads z x a b g .source))))
+
+    made-keeps : Follows o m (effect e m) (s .outside) (s .outside) → Bounded (after s e) n → Limits (after s e)
+    made-keeps f here = one-limits o m (effect e m) (s .outside) n k free-task off f (long-fits (effect-long e long)) here
+
+  module _ (n l r : ℕ) (a : n < numbers) (free : inUse m n ≡ false) where
+    task-off : (x f : ℕ) → f < 8 → (x ≡ n → ⊥) → field (effect (make-task n l r) m .bytes) x f ≡ field (m .bytes) x f
+    task-off x f lf h = byte-after (λ b. b) x f lf (make-task n l r) m long a tt ∙ rw (ne-eqb x n h)
+
+    pub task-follows : Follows o m (effect (make-task n l r) m) (s .outside) (s .outside)
+    unfolding effect
+    task-follows = made-follows (make-task n l r) n free task-off refl
+
+    task-keeps : Limits (after s (make-task n l r))
+    task-keeps =
+        made-keeps (make-task n l r) n free task-off task-follows
+        (bounded-none (after s (make-task n l r)) n
+        (object-after n (make-task n l r) m long a ∙ rw (eq-eqb n n refl))
+        (marked-after n (make-task n l r) m long (a, tt) ∙ rw (eq-eqb n n refl)))
+
+  module _ (n l d c : ℕ) (b : Bool) (a : MayMake s n l d b) where
+    abbrev making : Effect
+    making = make-object n l d c b
+
+    object-off : (x f : ℕ) → f < 8 → (x ≡ n → ⊥) → field (effect making m .bytes) x f ≡ field (m .bytes) x f
+    object-off x f lf h = byte-after (λ b. b) x f lf making m long (a .below) tt ∙ rw (ne-eqb x n h)
+
+    pub object-follows : Follows o m (effect making m) (s .outside) (s .outside)
+    unfolding effect
+    object-follows = made-follows making n (a .free) object-off refl
+
+    object-keeps : Limits (after s making)
+    object-keeps =
+        made-keeps making n (a .free) object-off object-follows
+        (record {
+          driver-task = λ h. rw driver (same-task same ∙ a .driver);
+          driver-above = λ h. rw (driver, level, same .level) (a .above);
+          driven-marked = λ h g. mark ∙ a .mark ∙ sym driver-mark ∙ (rw driver at g);
+          mark-covered = λ h.
+              rw level (covered-follows object-follows l
+              (covered-below s ok l _ (a .above) (k .bounded d (below d (task-used m d (a .driver))) .mark-covered (sym (a .mark) ∙ sym mark ∙ h))));
+        })
+      where
+        same : Same m (effect making m) d
+        same = object-follows .tasks d (a .driver)
+
+        level : levelOf (effect making m) n ≡ l
+        level = level-after n making m long (a .below) ∙ rw (eq-eqb n n refl)
+
+        driver : driverOf (effect making m) n ≡ d
+        driver = driver-after n making m long (a .below) ∙ rw (eq-eqb n n refl)
+
+        mark : marked (effect making m) n ≡ b
+        mark = marked-after n making m long (a .below, tt) ∙ rw (eq-eqb n n refl)
+
+        driver-mark : marked (effect making m) d ≡ marked m d
+        driver-mark = marked-after d making m long (a .below, tt) ∙ rw (ne-eqb d n (used-off making n (a .free) object-off d (task-used m d (a .driver))))
+
+  -- ---- an object is cleared, or moved
+
+  clear-off : (x : ℕ) → x < numbers → (y f : ℕ) → f < 8 → (y ≡ x → ⊥) → field (effect (clear x) m .bytes) y f ≡ field (m .bytes) y f
+  clear-off x a y f lf h = byte-after (λ b. b) y f lf (clear x) m long a tt ∙ rw (ne-eqb y x h)
+
+  object-task : (x : ℕ) → object m x ≡ true → task m x ≡ false
+  unfolding object isObject task isTask
+  object-task x h = rw (eqb-true (records.kind (m .bytes) x) 2 h)
+
+  module _ (x : ℕ) (h : object m x ≡ true) where
+    object-below : x < numbers
+    object-below = below x (object-used m x h)
+
+    pub clear-follows : Follows o m (effect (clear x) m) (s .outside) (s .outside)
+    clear-follows =
+        one-follows o m (effect (clear x) m) (s .outside) x k (object-task x h) (clear-off x object-below)
+        (λ g i. true≢false (sym i ∙ inUse-after x (clear x) m long object-below ∙ rw (eq-eqb x x refl)))
+        (λ u v lu lv g. cut (hasFlow m u v) u v (sym (flow-after u v lu lv (clear x) m long object-below) ∙ g))
+        (λ u v lu lv g. let c = cut (hasRead m u v) u v (sym (read-after u v lu lv (clear x) m long object-below) ∙ g) in (c .0, c .2))
+      where
+        cut : (b : Bool) (u v : ℕ) → (b && not (eqb u x) && not (eqb v x)) ≡ true → (b ≡ true) × (u ≡ x → ⊥) × (v ≡ x → ⊥)
+        cut b u v g =
+            let d = simp and-eq-true-iff at g in
+            (d .0 .0, eqb-false u x (not-true (eqb u x) (d .0 .1)), eqb-false v x (not-true (eqb v x) (d .1)))
+
+    clear-keeps : Limits (after s (clear x))
+    clear-keeps =
+        one-limits o m (effect (clear x) m) (s .outside) x k (object-task x h) (clear-off x object-below) clear-follows (long-fits (effect-long (clear x) long))
+        (bounded-none (after s (clear x)) x
+        (object-after x (clear x) m long object-below ∙ rw (eq-eqb x x refl))
+        (marked-after x (clear x) m long (object-below, tt) ∙ rw (eq-eqb x x refl)))
+
+    module _ (c : ℕ) where
+      move-kept : (y f : ℕ) → f < 4 → field (effect (move-to x c) m .bytes) y f ≡ field (m .bytes) y f
+      move-kept y f lf = byte-after (λ b. b) y f (omega arith) (move-to x c) m long object-below tt ∙ rw (ne-eqb f 4 (omega arith))
+
+      move-marked : (y : ℕ) → marked (effect (move-to x c) m) y ≡ marked m y
+      move-marked y = marked-after y (move-to x c) m long (object-below, tt)
+
+      pub move-follows : Follows o m (effect (move-to x c) m) (s .outside) (s .outside)
+      unfolding effect
+      move-follows = marks-follow o m (effect (move-to x c) m) (s .outside) (s .outside) k refl move-kept (λ y l g. move-marked y ∙ g) (λ t g. g)
+
+      move-keeps : Limits (after s (move-to x c))
+      unfolding effect
+      move-keeps =
+          marks-limits o m (effect (move-to x c) m) (s .outside) (s .outside) k refl move-kept (λ y l g. move-marked y ∙ g) (λ t g. g) (effect-bytes (move-to x c) m)
+          (λ y l g. k .bounded y l .mark-covered (sym (move-marked y) ∙ g))
+          (λ y l h g. move-marked y ∙ k .bounded y l .driven-marked h (sym (move-marked (driverOf m y)) ∙ g))
+          (λ t g. (k .named t g .0, marks-after t (move-to x c) m long (object-below, tt) ∙ k .named t g .1))
+
+  -- ---- a thing is marked and, for a task, its objects
+
+  pub marked-3 : (t : ℕ) → records.marks (m .bytes) t ≡ 3 → marked m t ≡ true
+  unfolding marked
+  marked-3 t h = rw h
+
+  module _ (x : ℕ) where
+    -- y is x, or one of its objects
+    abbrev Own : ℕ → Type 0
+    Own y = (y ≡ x) ⊎ ((task m x ≡ true) × (object m y ≡ true) × (driverOf m y ≡ x))
+
+    abbrev own : ℕ → Bool
+    own y = eqb y x || (task m x && objectOf m x y)
+
+    is-own : (y : ℕ) → own y ≡ true → Own y
+    unfolding objectOf
+    is-own y h =
+        ⊎-elim (λ e. inl (eqb-true y x e))
+        (λ (g : (task m x && (object m y && eqb (driverOf m y) x)) ≡ true). let t = simp and-eq-true-iff at g in inr (t .0, t .1 .0, eqb-true (driverOf m y) x (t .1 .1)))
+        (or-cases (eqb y x) _ h)
+
+    own-is : (y : ℕ) → Own y → own y ≡ true
+    unfolding objectOf
+    own-is y (inl e) = or-l (eqb y x) _ (eq-eqb y x e)
+    own-is y (inr t) = or-r (eqb y x) _ (and-i (t .0) (and-i (t .1) (eq-eqb (driverOf m y) x (t .2))))
+
+    -- the objects of what is x's own are x's own, and at or below x
+    own-driven : (y : ℕ) → y < numbers → object m y ≡ true → Own (driverOf m y) → Own y
+    own-driven y l h (inl d) = inr (ap (task m) (sym d) ∙ k .bounded y l .driver-task h, h, d)
+    own-driven y l h (inr t) = absurd (true≢false (sym (k .bounded y l .driver-task h) ∙ object-task (driverOf m y) (t .1)))
+
+    own-covered : (us : List ℕ) → Covered (standing o m us) (levelOf m x) → (y : ℕ) → y < numbers → Own y → Covered (standing o m us) (levelOf m y)
+    own-covered us c y l (inl e) = rw e c
+    own-covered us c y l (inr t) = covered-below (standing o m us) ok _ _ (k .bounded y l .driver-above (t .1)) (rw (t .2) c)
+
+    marking-keeps : (e : Effect) (us : List ℕ) → ((y : ℕ) → y < numbers → marked (effect e m) y ≡ (marked m y || own y))
+        → effect e m .words ≡ m .words
+        → ((y f : ℕ) → f < 4 → field (effect e m .bytes) y f ≡ field (m .bytes) y f)
+        → ((t : ℕ) → List·Memᴰ t (s .outside) → List·Memᴰ t us)
+        → Covered (standing o m us) (levelOf m x)
+        → ((t : ℕ) → List·Memᴰ t us → (task m t ≡ true) × (records.marks (effect e m .bytes) t ≡ 3))
+        → Limits (standing o (effect e m) us)
+    marking-keeps e us marks words kept more covered named =
+        marks-limits o m (effect e m) (s .outside) us k words kept (λ y l h. marks y l ∙ or-l (marked m y) (own y) h) more (effect-bytes e m)
+        (λ y l h. ⊎-elim
+        (λ g. let c = k .bounded y l .mark-covered g in (c .0, more (c .0) (c .1), c .2, c .3))
+        (λ g. own-covered us covered y l (is-own y g))
+        (or-cases (marked m y) (own y) (sym (marks y l) ∙ h)))
+        (λ y l h g.
+        let d = driverOf m y in
+        marks y l ∙ ⊎-elim
+        (λ p. or-l (marked m y) (own y) (k .bounded y l .driven-marked h p))
+        (λ p. or-r (marked m y) (own y) (own-is y (own-driven y l h (is-own d p))))
+        (or-cases (marked m d) (own d) (sym (marks d (below d (task-used m d (k .bounded y l .driver-task h)))) ∙ g)))
+        named
+
+  thing-keeps : (x : ℕ) → inUse m x ≡ true → Covered s (levelOf m x) → Limits (after s (mark-thing x))
+  unfolding effect
+  thing-keeps x u c =
+      marking-keeps x (mark-thing x) (s .outside) (λ y l. thing-marked y m long l x) (where-words _ m)
+      (λ y f lf. where-field _ m y f (omega arith) (omega arith)) (λ t h. h) c
+      (λ t h. let j = k .named t h in (j .0, where-kept _ m t (marked-3 t (j .1)) ∙ j .1))
+
+  -- e is named, so it covers itself
+  pub outside-keeps : (e : ℕ) → task m e ≡ true → atOrBelow o (levelOf m e) (levelOf m e) ≡ true → Limits (standing o (effect (mark-outside e) m) (e ∷ s .outside))
+  unfolding effect
+  outside-keeps e t self =
+      marking-keeps e (mark-outside e) (e ∷ s .outside) (λ y l. outside-marked y m long l e (below e u) ∙ rw t) (where-words _ _)
+      (λ y f lf. byte-after (λ b. b) y f (omega arith) (mark-outside e) m long (below e u) (omega arith)) (λ t h. List·Memᴰ·tail h)
+      (e, List·Memᴰ·head refl, t, self) (λ y h. ⊎-elim (first y) (earlier y) (List·Memᴰ·cases-cons h))
+    where
+      u : inUse m e ≡ true
+      u = task-used m e t
+
+      marks : (y : ℕ) → task m y ≡ true → records.marks (effect (mark-outside e) m .bytes) y ≡ cond (eqb y e) 3 (cond (objectOf m e y && not (marked m y)) 1 (records.marks (m .bytes) y))
+      marks y h = outside-marks y m long (below y (task-used m y h)) e (below e u)
+
+      first : (y : ℕ) → y ≡ e → (task m y ≡ true) × (records.marks (effect (mark-outside e) m .bytes) y ≡ 3)
+      first y d = let h = ap (task m) d ∙ t in (h, marks y h ∙ rw (eq-eqb y e d))
+
+      still : (a b : Bool) → _≡_ {A = ℕ} (cond a 3 (cond (b && false) 1 3)) 3
+      still true b = refl
+      still false true = refl
+      still false false = refl
+
+      earlier : (y : ℕ) → List·Memᴰ y (s .outside) → (task m y ≡ true) × (records.marks (effect (mark-outside e) m .bytes) y ≡ 3)
+      earlier y h =
+          let j = k .named y h in
+          (j .0, marks y (j .0) ∙ rw (marked-3 y (j .1), j .1) (still (eqb y e) (objectOf m e y)))
+
+  -- ---- each effect, and a list of them
+
+  pub effect-keeps : (e : Effect) → Allowed s e → Limits (after s e)
+  unfolding effect
+  effect-keeps (flow x y) a = flow-keeps x y a
+  effect-keeps (flow-if true x y) a = flow-keeps x y (a refl)
+  effect-keeps (flow-if false x y) a = k
+  effect-keeps (read-access z x) a = read-keeps z x a
+  effect-keeps (write-access z x) a = write-keeps z x (a .0) (a .1)
+  effect-keeps (make-task n l r) a = task-keeps n l r (a .0) (a .1)
+  effect-keeps (make-object n l d c b) a = object-keeps n l d c b a
+  effect-keeps (move-to x c) a = move-keeps x a c
+  effect-keeps (clear x) a = clear-keeps x a
+  effect-keeps (mark-outside e) a = absurd a
+  effect-keeps (mark-thing x) a = thing-keeps x (a .0) (a .1)
+
+pub effects-keep : (s : Standing) → IsOrder (s .order) → Limits s → (es : List Effect) → AllAllowed s es → Limits (standing (s .order) (effects es (s .memory)) (s .outside))
+unfolding effects
+effects-keep s ok k [] a = k
+effects-keep s ok k (e ∷ es) a = effects-keep (after s e) ok (effect-keeps s ok k e (a .0)) es (a .1)

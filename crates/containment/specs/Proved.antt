@@ -1,0 +1,108 @@
+-- The claims about lists, proved.
+-- Assumes nothing.
+use mathlib.Core.Path.{_≡_, refl, sym, ap, _∙_}
+use mathlib.Core.Bool.{Bool, true, false, cond, true≢false, and-eq-true-iff}
+use mathlib.Core.Logic.{_⊎_, inl, inr, ⊎-elim}
+use mathlib.Core.List.{List, [], _∷_, List·Memᴰ}
+use Prim.Native.Nat.{ℕ, _+_, _*_, _<_}
+use native.Mathlib.Omega.{arith}
+use lib.Dec.{eqb, leb}
+use lib.ListN.{set}
+use lib.Seq.{set-getD}
+use borrow.Author.Tests.{eqb-true, leb-true}
+use Rattle.bits.specs.AllLaws.{and-l, and-r}
+use Rattle.levels.specs.declared.Order.{Order}
+use Rattle.levels.specs.OrderLaws.{IsOrder, is-order}
+use Rattle.records.specs.Records.{numbers, recordSize, field, setField, marks, sound}
+use Rattle.model.specs.declared.Call.{Call}
+use Rattle.model.specs.declared.Call.the-variants.{Start, Mark}
+use Rattle.model.specs.Verdicts.{granted, slipped, row-state, row-number, isDone}
+use Rattle.model.specs.State.{Memory, lengthsFit, task, object, driverOf, marked}
+use Rattle.model.specs.Effects.{withBytes, objectOf, mark-outside, effect, effects}
+use Rattle.model.specs.Events.{Test, need, Event, Outcome, unless, firstFailing, verdictOf, outcome, mark}
+use Rattle.model.specs.Spread.{spread}
+use Rattle.model.specs.Monitor.{refusedUnless, fitted, start, started, perform}
+use Rattle.model.specs.MarkLaws.{where-rest}
+use Rattle.model.specs.TableLaws.{refusals, start-done, by-call}
+use Rattle.containment.specs.Lists.{Item, Standing, run, begun}
+use Rattle.containment.specs.Claims.{Reached, Contained, Containment, Determined, RepeatedMark, NeverUnsound}
+use Rattle.containment.specs.Invariant.{standing, Limits, Invariant, contained}
+use Rattle.containment.specs.Preserve.{marked-3}
+use Rattle.containment.specs.ItemsKeep.{start-keeps, run-keeps}
+
+-- what a list begun by a granted start leaves
+reached : (o : Order) (m : Memory) (is : List Item) → Reached o m is → Invariant (run is (begun o m))
+unfolding begun
+reached o m is r = run-keeps is (begun o m) (start-keeps o m (ap isDone (r .granted-start))) (r .admissible)
+
+pub containment : Containment
+containment o m is r = contained (run is (begun o m)) (reached o m is r .limits)
+
+-- a granted start leaves the same whatever was there
+pub determined : Determined
+unfolding begun
+determined o m n is g h = ap (λ (u : Memory). run is (standing o u [])) (left m g ∙ sym (left n h))
+  where
+    left : (u : Memory) → perform o u Start .verdict ≡ granted → perform o u Start .memory ≡ started o
+    left u e = ap (λ (out : Outcome). out .memory) (start-done o u (ap isDone e) .2)
+
+-- ---- rows 2 and 3 do not apply
+
+module _ (s : Standing) (i : Invariant s) where
+  fitted-out : (out : Outcome) → fitted (s .order) (s .memory) out ≡ out
+  unfolding fitted refusedUnless
+  fitted-out out = rw (i .limits .fits, i .is-sound, i .passes)
+
+  start-out : start (s .order) (s .memory) ≡ record { verdict = granted; rounds = 0; memory = started (s .order) }
+  unfolding start refusedUnless
+  start-out = rw (i .limits .fits, i .passes)
+
+-- a table's verdict is none of its own rows' numbers, or granted or slipped
+not-state : (ts : List Test) (last : ℕ) → refusals ts ≡ true → (last ≡ row-state → ⊥) → firstFailing ts last ≡ row-state → ⊥
+unfolding firstFailing unless
+not-state [] last r h e = h e
+not-state (need n true ∷ ts) last r h e = not-state ts last (and-r (leb row-number n) (refusals ts) r) h e
+not-state (need n false ∷ ts) last r h e = omega (arith, leb-true row-number n (and-l (leb row-number n) (refusals ts) r))
+
+pub never-unsound : NeverUnsound
+unfolding outcome verdictOf unless spread
+never-unsound o m is r c =
+    by-call (λ out. out .verdict ≡ row-state → ⊥) (s .order) (s .memory)
+    (rw (start-out s i) (λ e. omega arith)) (λ e n. rw (fitted-out s i) (not-state (e .tests) _ n (honest (e .honest)))) (rw (fitted-out s i) (λ e. omega arith)) c
+  where
+    s : Standing
+    s = run is (begun o m)
+
+    i : Invariant s
+    i = reached o m is r
+
+    honest : (b : Bool) → cond b granted slipped ≡ row-state → ⊥
+    honest true e = omega arith
+    honest false e = omega arith
+
+-- ---- what is marked from outside is marked already, and its objects are
+
+mark-again : (s : Standing) → IsOrder (s .order) → Limits s → (e : ℕ) → List·Memᴰ e (s .outside) → effect (mark-outside e) (s .memory) ≡ s .memory
+unfolding effect objectOf field setField
+mark-again s ok k e h = rw same (where-rest (objectOf m e) m own)
+  where
+    m : Memory
+    m = s .memory
+
+    same : withBytes m (setField (m .bytes) e 5 3) ≡ m
+    same = ap (withBytes m) (ap (set (m .bytes) (recordSize * e + 5)) (sym (k .named e h .1)) ∙ set-getD (m .bytes) (recordSize * e + 5) 0)
+
+    own : (x : ℕ) → x < numbers → objectOf m e x ≡ true → marked m x ≡ true
+    own x l p =
+        let t = simp and-eq-true-iff at p in
+        k .bounded x l .driven-marked (t .0) (ap (marked m) (eqb-true (driverOf m x) e (t .1)) ∙ marked-3 s ok k e (k .named e h .1))
+
+pub repeated-mark : RepeatedMark
+unfolding outcome verdictOf firstFailing unless mark effects
+repeated-mark o m is r e h = fitted-out s i _ ∙ rw (i .limits .named e h .0, mark-again s (is-order (s .order) (i .passes)) (i .limits) e h)
+  where
+    s : Standing
+    s = run is (begun o m)
+
+    i : Invariant s
+    i = reached o m is r
