@@ -1,0 +1,3 @@
+pub mod Decisions
+pub mod DecisionLaws
+pub mod EventLaws
