@@ -1,0 +1,11 @@
+use Rattle.decisions.specs.Decisions.{apart}
+use borrow.Author.Needs.{needs}
+use Rattle.decisions.proofs.apart.Statement.{statement}
+use Rattle.decisions.proofs.apart.Tie as tie
+
+returns : tie.Need-returns
+unfolding apart
+returns c = cc
+
+pub apart-spec : {M : Type 1} → statement M
+apart-spec = tie.close (tie.spec (λ c κs. search needs) returns)

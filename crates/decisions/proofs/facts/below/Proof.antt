@@ -1,0 +1,9 @@
+use borrow.Author.Needs.{needs}
+use Rattle.decisions.proofs.facts.below.Statement.{statement}
+use Rattle.decisions.proofs.facts.below.Tie as tie
+
+returns : tie.Need-returns
+returns c = cc
+
+pub below-spec : {M : Type 1} → statement M
+below-spec = tie.close (tie.spec (λ c κs. search needs) (λ c. search needs) (λ c κs. search needs) returns)

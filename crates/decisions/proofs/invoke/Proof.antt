@@ -1,0 +1,11 @@
+use Rattle.decisions.specs.Decisions.{invokeDecision}
+use borrow.Author.Needs.{needs}
+use Rattle.decisions.proofs.invoke.Statement.{statement}
+use Rattle.decisions.proofs.invoke.Tie as tie
+
+returns : tie.Need-returns
+unfolding invokeDecision
+returns c = cc
+
+pub invoke-spec : {M : Type 1} → statement M
+invoke-spec = tie.close (tie.spec (λ c κs. search needs) returns)

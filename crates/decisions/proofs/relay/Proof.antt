@@ -1,0 +1,11 @@
+use Rattle.decisions.specs.Decisions.{relayDecision}
+use borrow.Author.Needs.{needs}
+use Rattle.decisions.proofs.relay.Statement.{statement}
+use Rattle.decisions.proofs.relay.Tie as tie
+
+returns : tie.Need-returns
+unfolding relayDecision
+returns c = cc
+
+pub relay-spec : {M : Type 1} → statement M
+relay-spec = tie.close (tie.spec (λ c κs. search needs) returns)

@@ -1,0 +1,83 @@
+-- From a decision to the verdict and the outcome of its event's table.
+-- Assumes nothing.
+use mathlib.Core.Path.{_≡_, refl, sym, ap, _∙_}
+use mathlib.Core.Bool.{Bool, true, false, _&&_, _||_, true≢false}
+use mathlib.Core.List.{List}
+use Prim.Native.Nat.{ℕ, suc, _≤_, _<_}
+use native.Mathlib.Nat.{lt-of-not-le}
+use native.Mathlib.Omega.{arith}
+use lib.Dec.{eqb, eqb·zero-suc}
+use lib.ListN.{length, List·getD-eq-default}
+use borrow.Author.Tests.{le-leb, lt-leb}
+use Rattle.records.specs.Records.{numbers, field, kind, isTask, isObject}
+use Rattle.model.specs.Verdicts.{granted, slipped, row-path, row-rule, isDone}
+use Rattle.model.specs.State.{Memory, memory, task, object}
+use Rattle.model.specs.Effects.{Effect, effects}
+use Rattle.model.specs.Events.{Event, Outcome, left, unless, verdictOf, outcome}
+use Rattle.decisions.specs.declared.Decision.{Decision}
+use Rattle.decisions.specs.Decisions.{judged, apart}
+
+-- a decision with the verdict of a whole table
+pub judged-is : (e : Event) {d f : Decision} → d ≡ f → {v : ℕ} → (d .verdict ≡ f .verdict → v ≡ verdictOf e)
+    → record { verdict = v; first = d .first; second = d .second } ≡ judged e f
+judged-is e is h = let p = h (ap (λ (d : Decision). d .verdict) is) in λ i. record { verdict = p i; first = is i .first; second = is i .second }
+
+-- ---- what is not free is one of the numbers
+
+kind-small : (bs : List ℕ) (x k : ℕ) → length bs ≡ 1024 → eqb (kind bs x) (suc k) ≡ true → x < numbers
+unfolding field
+kind-small bs x k l e =
+    lt-of-not-le (λ (h : numbers ≤ x). true≢false (sym e ∙ ap (λ (v : ℕ). eqb v (suc k)) (List·getD-eq-default bs 0 (omega arith)) ∙ eqb·zero-suc k))
+
+module _ (m : Memory) (x : ℕ) (l : length (m .bytes) ≡ 1024) where
+  pub task-small : task m x ≡ true → x < numbers
+  unfolding task isTask
+  task-small = kind-small (m .bytes) x 0 l
+
+  pub object-small : object m x ≡ true → x < numbers
+  unfolding object isObject
+  object-small = kind-small (m .bytes) x 1 l
+
+-- below a row of the table its need holds
+pub under : (ok : Bool) (n : ℕ) (v w : ℕ) → (ok ≡ true → v ≡ w) → unless ok n v ≡ unless ok n w
+unfolding unless
+under true n v w h = h refl
+under false n v w h = refl
+
+-- the test that stands apart joins the rows: other level tests of the rule may stand beside it
+pub apart-joins : (path rule other below honest : Bool)
+    → unless path row-path (unless rule row-rule (unless (other && below) row-rule (unless honest slipped granted)))
+    ≡ apart below (unless path row-path (unless rule row-rule (unless other row-rule (unless honest slipped granted))))
+unfolding unless apart
+apart-joins false rule other true honest = refl
+apart-joins false rule other false honest = refl
+apart-joins true false other true honest = refl
+apart-joins true false other false honest = refl
+apart-joins true true true true honest = refl
+apart-joins true true true false true = refl
+apart-joins true true true false false = refl
+apart-joins true true false true honest = refl
+apart-joins true true false false honest = refl
+
+-- ---- the outcome
+
+-- what the code tells of an event: the verdict, and effects that leave what the table's leave
+pub record Told (m : Memory) (e : Event) (j : Decision) (does : Decision → List Effect) : Type 0 where
+  pub verdict : j .verdict ≡ verdictOf e
+  pub leaves : effects (does j) m ≡ effects (e .effects) m
+
+module _ {m : Memory} {e : Event} {j : Decision} {does : Decision → List Effect} (t : Told m e j does) {d : Decision} (is : d ≡ j) where
+  pub done : {bs ws : List ℕ} → d .verdict ≤ slipped → memory bs ws ≡ effects (does d) m → left (d .verdict) 0 bs ws ≡ outcome m e
+  unfolding outcome
+  done h s =
+      let v : d .verdict ≡ verdictOf e = rw is (t .verdict) in
+      let y : isDone (verdictOf e) ≡ true = rw v at (le-leb _ _ h) in
+      let u : memory _ _ ≡ effects (e .effects) m = s ∙ rw is (t .leaves) in
+      rw y (λ i. record { verdict = v i; rounds = 0; memory = u i })
+
+  pub refused : slipped < d .verdict → left (d .verdict) 0 (m .bytes) (m .words) ≡ outcome m e
+  unfolding outcome
+  refused h =
+      let v : d .verdict ≡ verdictOf e = rw is (t .verdict) in
+      let n : isDone (verdictOf e) ≡ false = rw v at (lt-leb _ _ h) in
+      rw n (λ i. record { verdict = v i; rounds = 0; memory = m })

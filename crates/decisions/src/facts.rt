@@ -1,0 +1,74 @@
+// What the events ask of the bytes and the words.
+ghost use mathlib.Core.Path.{_≡_};
+ghost use mathlib.Core.Bool.{not, _&&_};
+ghost use Prim.Native.Nat.{_+_, _≤_};
+ghost use lib.Dec.{ltb, eqb};
+ghost use Rattle.rows.specs.Rows.{cell};
+ghost use Rattle.levels.specs.Order.{atOrBelow};
+ghost use Rattle.records.specs.Records.{field, isTask, isObject};
+use levels::Order;
+use records::FREE;
+use records::KIND;
+use records::LEVEL;
+use records::MARKS;
+
+// The rows at which the tables of accesses begin; the flows begin at 0.
+pub const READS: u16 = 128;
+
+pub const WRITES: u16 = 256;
+
+const NUMBERS: u16 = 128;
+
+// The level l is at or below the level of y.
+pub fn level_below(bytes: &[u8], order: Order, l: u16, y: u16) -> bool
+    ensures { λ r. ⌜ r ≡ atOrBelow order l (field (now (bytes .entry)) y 1) ⌝ }
+{
+    let b = records::field(bytes, y, LEVEL);
+    levels::at_or_below(order, l, b as u16)
+}
+
+// The level in byte f of x is at or below the level of y.
+pub fn below(bytes: &[u8], order: Order, x: u16, f: u16, y: u16) -> bool
+    ensures { λ r. ⌜ r ≡ atOrBelow order (field (now (bytes .entry)) x f) (field (now (bytes .entry)) y 1) ⌝ }
+{
+    let a = records::field(bytes, x, f);
+    level_below(bytes, order, a as u16, y)
+}
+
+pub fn marked(bytes: &[u8], x: u16) -> bool
+    ensures { λ r. ⌜ r ≡ not (eqb (field (now (bytes .entry)) x 5) 0) ⌝ }
+{
+    records::field(bytes, x, MARKS) != 0
+}
+
+pub fn in_use(bytes: &[u8], x: u16) -> bool
+    ensures { λ r. ⌜ r ≡ not (eqb (field (now (bytes .entry)) x 0) 0) ⌝ }
+{
+    records::field(bytes, x, KIND) != FREE
+}
+
+// Byte f of x, a driver or a container, is the number y.
+pub fn names(bytes: &[u8], x: u16, f: u16, y: u16) -> bool
+    ensures { λ r. ⌜ r ≡ eqb (field (now (bytes .entry)) x f) y ⌝ }
+{
+    (records::field(bytes, x, f) as u16) == y
+}
+
+// Two tasks and an object, as most calls name them.
+pub fn are_named(bytes: &[u8], e: u16, d: u16, x: u16) -> bool
+    ensures { λ r. ⌜ r ≡ (isTask (now (bytes .entry)) e && isTask (now (bytes .entry)) d && isObject (now (bytes .entry)) x) ⌝ }
+{
+    records::is_task(bytes, e) & records::is_task(bytes, d) & records::is_object(bytes, x)
+}
+
+// An access of the task e to the object x in a table; a number past the table has none.
+pub fn has_access(words: &[u64], table: u16, e: u16, x: u16) -> bool
+    requires { ⌜ table ≤ 256 ⌝ }
+    ensures { λ r. ⌜ r ≡ (ltb e 128 && cell 2 (now (words .entry)) (table + e) x) ⌝ }
+{
+    if e < NUMBERS {
+        rows::has(words, table + e, x)
+    } else {
+        false
+    }
+}

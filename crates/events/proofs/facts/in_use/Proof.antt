@@ -1,9 +1,0 @@
-use borrow.Author.Needs.{needs}
-use Rattle.events.proofs.facts.in_use.Statement.{statement}
-use Rattle.events.proofs.facts.in_use.Tie as tie
-
-returns : tie.Need-returns
-returns c = cc
-
-pub in-use-spec : {M : Type 1} → statement M
-in-use-spec = tie.close (tie.spec (λ c κs. search needs) returns)

@@ -1,9 +1,0 @@
-use borrow.Author.Needs.{needs}
-use Rattle.events.proofs.facts.level_below.Statement.{statement}
-use Rattle.events.proofs.facts.level_below.Tie as tie
-
-returns : tie.Need-returns
-returns c = cc
-
-pub level-below-spec : {M : Type 1} → statement M
-level-below-spec = tie.close (tie.spec (λ c κs. search needs) (λ c. search needs) (λ c κs. search needs) returns)

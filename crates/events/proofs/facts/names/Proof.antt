@@ -1,9 +1,0 @@
-use borrow.Author.Needs.{needs}
-use Rattle.events.proofs.facts.names.Statement.{statement}
-use Rattle.events.proofs.facts.names.Tie as tie
-
-returns : tie.Need-returns
-returns c = cc
-
-pub names-spec : {M : Type 1} → statement M
-names-spec = tie.close (tie.spec (λ c κs. search needs) (λ c. search needs) returns)

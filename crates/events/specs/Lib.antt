@@ -1,3 +1,0 @@
-pub mod Decisions
-pub mod DecisionLaws
-pub mod EventLaws

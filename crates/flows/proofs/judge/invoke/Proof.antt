@@ -1,0 +1,16 @@
+use Rattle.flows.specs.Judged.{invokeDecided}
+use Rattle.model.specs.State.{task, marked}
+use Rattle.flows.specs.FlowLaws.{invoke-verdict}
+use borrow.Author.Needs.{needs}
+use Rattle.flows.proofs.judge.invoke.Statement.{statement}
+use Rattle.flows.proofs.judge.invoke.Tie as tie
+
+returns : tie.Need-returns
+unfolding task marked invokeDecided
+returns c = λ ws. rw invoke-verdict (cc)
+
+pub invoke-spec : {M : Type 1} → statement M
+invoke-spec =
+    tie.close
+    (tie.spec (λ c κs. search needs) (λ c κs. search needs) (λ c κs. search needs) (λ c κs. search needs) (λ c κs. search needs)
+    (λ c κs. search needs) returns)

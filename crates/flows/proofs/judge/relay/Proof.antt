@@ -1,0 +1,15 @@
+use Rattle.flows.specs.Judged.{relayDecided}
+use Rattle.model.specs.State.{marked}
+use borrow.Author.Needs.{needs}
+use Rattle.flows.proofs.judge.relay.Statement.{statement}
+use Rattle.flows.proofs.judge.relay.Tie as tie
+
+returns : tie.Need-returns
+unfolding marked relayDecided
+returns c = λ ws. cc
+
+pub relay-spec : {M : Type 1} → statement M
+relay-spec =
+    tie.close
+    (tie.spec (λ c κs. search needs) (λ c. search needs) (λ c κs. search needs) (λ c κs. search needs) (λ c κs. search needs)
+    (λ c κs. search needs) (λ c κs. search needs) (λ c κs. search needs) returns)

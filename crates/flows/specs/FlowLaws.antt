@@ -1,0 +1,74 @@
+-- The tables of the events of flows: each verdict is its decision's under the rows above it, and each list of effects is the code's.
+-- Assumes nothing.
+use mathlib.Core.Path.{_≡_, refl}
+use mathlib.Core.Bool.{not, _&&_}
+use mathlib.Core.List.{[], _∷_}
+use Prim.Native.Nat.{ℕ}
+use lib.Dec.{ltb, eqb}
+use lib.ListN.{length}
+use borrow.Author.Tests.{lt-ltb}
+use Rattle.bits.specs.AllLaws.{and-l, and-r}
+use Rattle.levels.specs.declared.Order.{Order}
+use Rattle.records.specs.Records.{numbers}
+use Rattle.model.specs.Verdicts.{granted, row-number, row-place, row-held}
+use Rattle.model.specs.State.{Memory, inUse, task, object, hasFlow, hasRead}
+use Rattle.model.specs.Effects.{flow-if, effect, effects}
+use Rattle.model.specs.Events.{unless, firstFailing, verdictOf, callTask, invoke, pass, post, find, risky}
+use Rattle.decisions.specs.Decisions.{callDecision, invokeDecision, relayDecision}
+use Rattle.decisions.specs.DecisionLaws.{Told, under, task-small}
+use Rattle.flows.specs.Judged.{callDecided, invokeDecided, relayDecided, callJudged, invokeJudged, passJudged, postJudged, findJudged}
+
+module _ (o : Order) (m : Memory) where
+  pub call-verdict : (a b : ℕ) → verdictOf (callTask o m a b) ≡ unless (task m a && task m b) row-number (callDecided o m a b .verdict)
+  unfolding verdictOf firstFailing unless callTask callDecision callDecided
+  call-verdict a b = refl
+
+  pub invoke-verdict : (a b : ℕ) → verdictOf (invoke o m a b) ≡ unless (task m a && task m b) row-number (invokeDecided o m a b .verdict)
+  unfolding verdictOf firstFailing unless invoke invokeDecision invokeDecided
+  invoke-verdict a b = refl
+
+  pub find-verdict : (x z y : ℕ) → verdictOf (find o m x z y)
+      ≡ unless (task m x && task m z && inUse m y) row-number (unless (not (eqb x y)) row-place (unless (hasFlow m x z && hasFlow m z y) row-held granted))
+  unfolding verdictOf firstFailing unless find
+  find-verdict x z y = refl
+
+  -- an access is looked for in its table, past which there is none
+  module _ (l : length (m .bytes) ≡ 1024) where
+    pub pass-verdict : (z x y : ℕ) → verdictOf (pass o m z x y)
+        ≡ unless (task m z && object m x && inUse m y) row-number
+        (unless (not (eqb y x)) row-place
+        (unless (hasFlow m z y && (ltb z numbers && hasRead m z x)) row-held (relayDecided o m z x .verdict)))
+    unfolding verdictOf firstFailing unless pass risky relayDecision relayDecided
+    pass-verdict z x y =
+        under (task m z && object m x && inUse m y) _ _ _
+        (λ e. rw (lt-ltb z numbers (task-small m z l (and-l _ _ (and-l (task m z && object m x) (inUse m y) e)))))
+
+    pub post-verdict : (x z y : ℕ) → verdictOf (post o m x z y)
+        ≡ unless (task m x && object m z && task m y) row-number
+        (unless (not (eqb x y)) row-place
+        (unless (hasFlow m x z && (ltb y numbers && hasRead m y z)) row-held (relayDecided o m y z .verdict)))
+    unfolding verdictOf firstFailing unless post risky relayDecision relayDecided
+    post-verdict x z y =
+        under (task m x && object m z && task m y) _ _ _
+        (λ e. rw (lt-ltb y numbers (task-small m y l (and-r (task m x && object m z) (task m y) e))))
+
+  -- ---- effects
+  pub call-told : (a b : ℕ) → Told m (callTask o m a b) (callJudged o m a b) (λ d. flow-if (d .first) b a ∷ flow-if (d .second) a b ∷ [])
+  unfolding callTask callDecision callDecided effects effect
+  call-told a b = record { verdict = refl; leaves = refl }
+
+  pub invoke-told : (a b : ℕ) → Told m (invoke o m a b) (invokeJudged o m a b) (λ d. flow-if (d .first) a b ∷ flow-if (d .second) b a ∷ [])
+  unfolding invoke invokeDecision invokeDecided effects effect
+  invoke-told a b = record { verdict = refl; leaves = refl }
+
+  pub pass-told : (z x y : ℕ) → Told m (pass o m z x y) (passJudged o m z x y) (λ d. flow-if (d .first) x y ∷ [])
+  unfolding pass relayDecision relayDecided effects effect
+  pass-told z x y = record { verdict = refl; leaves = refl }
+
+  pub post-told : (x z y : ℕ) → Told m (post o m x z y) (postJudged o m x z y) (λ d. flow-if (d .first) x y ∷ [])
+  unfolding post relayDecision relayDecided effects effect
+  post-told x z y = record { verdict = refl; leaves = refl }
+
+  pub find-told : (x z y : ℕ) → Told m (find o m x z y) (findJudged o m x z y) (λ d. flow-if (d .first) x y ∷ [])
+  unfolding find effects effect
+  find-told x z y = record { verdict = refl; leaves = refl }

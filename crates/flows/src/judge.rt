@@ -1,0 +1,101 @@
+// The verdict of each event of flows, and which of its flows are recorded.
+ghost use mathlib.Core.Path.{_≡_};
+ghost use mathlib.Core.List.{List};
+ghost use Prim.Native.Nat.{ℕ};
+ghost use lib.ListN.{length};
+ghost use Rattle.model.specs.State.{memory};
+ghost use Rattle.flows.specs.Judged.{relayDecided, callJudged, invokeJudged, passJudged, postJudged, findJudged};
+use decisions::Decision;
+use decisions::facts::READS;
+use decisions::facts::below;
+use decisions::facts::has_access;
+use decisions::facts::in_use;
+use decisions::facts::marked;
+use decisions::unless;
+use levels::Order;
+use model::GRANTED;
+use model::HELD;
+use model::NUMBER;
+use model::PLACE;
+use records::DRIVER;
+use records::LEVEL;
+use records::READ_LEVEL;
+use records::is_object;
+use records::is_task;
+
+pub fn call_task(bytes: &[u8], order: Order, caller: u16, callee: u16) -> Decision
+    ensures { λ r. ⌜ ((ws : List ℕ) → r ≡ callJudged order (memory (now (bytes .entry)) ws) caller callee) ⌝ }
+{
+    let mut judged = decisions::call_task(
+        below(bytes, order, caller, LEVEL, callee),
+        below(bytes, order, caller, READ_LEVEL, callee),
+        marked(bytes, caller),
+        marked(bytes, callee),
+    );
+    let named = is_task(bytes, caller) & is_task(bytes, callee);
+    judged.verdict = unless(named, NUMBER, judged.verdict);
+    judged
+}
+
+pub fn invoke(bytes: &[u8], order: Order, invoker: u16, invokee: u16) -> Decision
+    ensures { λ r. ⌜ ((ws : List ℕ) → r ≡ invokeJudged order (memory (now (bytes .entry)) ws) invoker invokee) ⌝ }
+{
+    let mut judged = decisions::invoke(
+        below(bytes, order, invokee, LEVEL, invoker),
+        marked(bytes, invoker),
+    );
+    let named = is_task(bytes, invoker) & is_task(bytes, invokee);
+    judged.verdict = unless(named, NUMBER, judged.verdict);
+    judged
+}
+
+// Whether what the task z read of the object x goes on.
+fn relay(bytes: &[u8], order: Order, z: u16, x: u16) -> Decision
+    ensures { λ r. ⌜ ((ws : List ℕ) → r ≡ relayDecided order (memory (now (bytes .entry)) ws) z x) ⌝ }
+{
+    let driver = records::field(bytes, x, DRIVER) as u16;
+    decisions::relay(
+        below(bytes, order, z, LEVEL, x),
+        below(bytes, order, z, READ_LEVEL, x),
+        below(bytes, order, z, LEVEL, driver),
+        below(bytes, order, z, READ_LEVEL, driver),
+        marked(bytes, z),
+    )
+}
+
+pub fn pass(bytes: &[u8], words: &[u64], order: Order, z: u16, x: u16, y: u16) -> Decision
+    requires { ⌜ length (now bytes) ≡ 1024 ⌝ }
+    ensures { λ r. ⌜ r ≡ passJudged order (memory (now (bytes .entry)) (now (words .entry))) z x y ⌝ }
+{
+    let mut judged = relay(bytes, order, z, x);
+    let named = is_task(bytes, z) & is_object(bytes, x) & in_use(bytes, y);
+    let held = rows::has(words, z, y) & has_access(words, READS, z, x);
+    let row = unless(y != x, PLACE, unless(held, HELD, judged.verdict));
+    judged.verdict = unless(named, NUMBER, row);
+    judged
+}
+
+pub fn post(bytes: &[u8], words: &[u64], order: Order, x: u16, z: u16, y: u16) -> Decision
+    requires { ⌜ length (now bytes) ≡ 1024 ⌝ }
+    ensures { λ r. ⌜ r ≡ postJudged order (memory (now (bytes .entry)) (now (words .entry))) x z y ⌝ }
+{
+    let mut judged = relay(bytes, order, y, z);
+    let named = is_task(bytes, x) & is_object(bytes, z) & is_task(bytes, y);
+    let held = rows::has(words, x, z) & has_access(words, READS, y, z);
+    let row = unless(x != y, PLACE, unless(held, HELD, judged.verdict));
+    judged.verdict = unless(named, NUMBER, row);
+    judged
+}
+
+pub fn find(bytes: &[u8], words: &[u64], order: Order, x: u16, z: u16, y: u16) -> Decision
+    ensures { λ r. ⌜ r ≡ findJudged order (memory (now (bytes .entry)) (now (words .entry))) x z y ⌝ }
+{
+    let named = is_task(bytes, x) & is_task(bytes, z) & in_use(bytes, y);
+    let held = rows::has(words, x, z) & rows::has(words, z, y);
+    let row = unless(x != y, PLACE, unless(held, HELD, GRANTED));
+    Decision {
+        verdict: unless(named, NUMBER, row),
+        first: true,
+        second: false,
+    }
+}

@@ -1,0 +1,68 @@
+// The events of flows alone: call, invoke, pass, post and find, each equal to its table in the model.
+ghost use mathlib.Core.Path.{_≡_};
+ghost use mathlib.Core.Bool.{true};
+ghost use lib.ListN.{length};
+ghost use Rattle.levels.specs.Order.{orderPasses};
+ghost use Rattle.model.specs.State.{memory};
+ghost use Rattle.model.specs.Events.{left, outcome, callTask, invoke, pass, post, find};
+
+mod judge;
+
+use decisions::effects;
+use levels::Order;
+use model::SLIPPED;
+
+pub fn call_task(bytes: &[u8], words: &mut [u64], order: Order, caller: u16, callee: u16) -> u8
+    requires { ⌜ (length (now bytes) ≡ 1024) × (length (now words) ≡ 768) × (orderPasses order ≡ true) ⌝ }
+    ensures { λ r. ⌜ left r 0 (now (bytes .entry)) (now (words .exit)) ≡ outcome (memory (now (bytes .entry)) (now (words .entry))) (callTask order (memory (now (bytes .entry)) (now (words .entry))) caller callee) ⌝ }
+{
+    let judged = judge::call_task(bytes, order, caller, callee);
+    if judged.verdict <= SLIPPED {
+        effects::record_both(words, judged, callee, caller, caller, callee);
+    }
+    judged.verdict
+}
+
+pub fn invoke(bytes: &[u8], words: &mut [u64], order: Order, invoker: u16, invokee: u16) -> u8
+    requires { ⌜ (length (now bytes) ≡ 1024) × (length (now words) ≡ 768) × (orderPasses order ≡ true) ⌝ }
+    ensures { λ r. ⌜ left r 0 (now (bytes .entry)) (now (words .exit)) ≡ outcome (memory (now (bytes .entry)) (now (words .entry))) (invoke order (memory (now (bytes .entry)) (now (words .entry))) invoker invokee) ⌝ }
+{
+    let judged = judge::invoke(bytes, order, invoker, invokee);
+    if judged.verdict <= SLIPPED {
+        effects::record_both(words, judged, invoker, invokee, invokee, invoker);
+    }
+    judged.verdict
+}
+
+pub fn pass(bytes: &[u8], words: &mut [u64], order: Order, z: u16, x: u16, y: u16) -> u8
+    requires { ⌜ (length (now bytes) ≡ 1024) × (length (now words) ≡ 768) × (orderPasses order ≡ true) ⌝ }
+    ensures { λ r. ⌜ left r 0 (now (bytes .entry)) (now (words .exit)) ≡ outcome (memory (now (bytes .entry)) (now (words .entry))) (pass order (memory (now (bytes .entry)) (now (words .entry))) z x y) ⌝ }
+{
+    let judged = judge::pass(bytes, words, order, z, x, y);
+    if judged.verdict <= SLIPPED {
+        effects::record_first(words, judged, x, y);
+    }
+    judged.verdict
+}
+
+pub fn post(bytes: &[u8], words: &mut [u64], order: Order, x: u16, z: u16, y: u16) -> u8
+    requires { ⌜ (length (now bytes) ≡ 1024) × (length (now words) ≡ 768) × (orderPasses order ≡ true) ⌝ }
+    ensures { λ r. ⌜ left r 0 (now (bytes .entry)) (now (words .exit)) ≡ outcome (memory (now (bytes .entry)) (now (words .entry))) (post order (memory (now (bytes .entry)) (now (words .entry))) x z y) ⌝ }
+{
+    let judged = judge::post(bytes, words, order, x, z, y);
+    if judged.verdict <= SLIPPED {
+        effects::record_first(words, judged, x, y);
+    }
+    judged.verdict
+}
+
+pub fn find(bytes: &[u8], words: &mut [u64], order: Order, x: u16, z: u16, y: u16) -> u8
+    requires { ⌜ (length (now bytes) ≡ 1024) × (length (now words) ≡ 768) × (orderPasses order ≡ true) ⌝ }
+    ensures { λ r. ⌜ left r 0 (now (bytes .entry)) (now (words .exit)) ≡ outcome (memory (now (bytes .entry)) (now (words .entry))) (find order (memory (now (bytes .entry)) (now (words .entry))) x z y) ⌝ }
+{
+    let judged = judge::find(bytes, words, order, x, z, y);
+    if judged.verdict <= SLIPPED {
+        effects::record_first(words, judged, x, y);
+    }
+    judged.verdict
+}
