@@ -10,3 +10,4 @@ pub mod Preserve
 pub mod EventsKeep
 pub mod ItemsKeep
 pub mod Proved
+pub mod SpreadProof
