@@ -2,17 +2,21 @@
 -- Assumes nothing.
 use mathlib.Core.Path.{_≡_, refl, sym, ap, _∙_}
 use mathlib.Core.Logic.{_⊎_, inl, inr, ⊎-elim}
-use mathlib.Core.Bool.{Bool, true, false, not, _&&_, and-eq-true-iff, true≢false}
+use mathlib.Core.Bool.{Bool, true, false, _&&_, and-eq-true-iff, true≢false}
 use mathlib.Core.List.{List, [], _∷_}
 use Prim.Native.Nat.{ℕ, _*_, _<_}
+use native.Mathlib.Omega.{arith}
 use lib.Dec.{eqb}
-use lib.ListN.{length, replicate, length-replicate}
-use borrow.Author.Tests.{eqb-true, eqb-false, eq-eqb, ltb-true, lt-ltb, not-true, not-false}
+use lib.ListN.{length, length-replicate}
+use borrow.Author.Tests.{eqb-true, eqb-false, eq-eqb, ltb-true, not-true, not-false}
+use Rattle.bits.specs.All.{one}
 use Rattle.bits.specs.AllLaws.{and-i, and-l, any-i, or-cases}
 use Rattle.levels.specs.declared.Order.{Order}
 use Rattle.levels.specs.Order.{inOrder, orderPasses}
 use Rattle.levels.specs.OrderLaws.{is-order, both-in}
 use Rattle.records.specs.Records.{numbers, recordSize, rootSign, kind, isTask, isObject, sound}
+use Rattle.records.specs.RecordLaws.{field-else, in-use, long}
+use Rattle.records.specs.KeepLaws.{task-made, object-made, object-moved, object-cleared, mark-kept, sound-start}
 use Rattle.model.specs.declared.Call.the-variants.{Start, Read, Write, Execute, Create, CreateRoot, Move, Delete, CallTask, Invoke, Pass, Post, Find, Mark, Step, Spread}
 use Rattle.model.specs.Verdicts.{isDone}
 use Rattle.model.specs.State.{Memory, rowSize, tables, lengthsFit, inUse, task, object, driverOf, containerOf}
@@ -21,18 +25,13 @@ use Rattle.model.specs.Events.{Event, outcome, read, write, execute, create, cr
 use Rattle.model.specs.Spread.{reached, driven, round, spread}
 use Rattle.model.specs.Monitor.{fitted, started, start}
 use Rattle.model.specs.MarkLaws.{where-keeps}
-use Rattle.model.specs.SpreadLaws.{after-keeps, spread-more}
+use Rattle.model.specs.SpreadLaws.{object-used, after-keeps, spread-more}
 use Rattle.model.specs.TableLaws.{Happened, refusals, event-done, fitted-done, start-done}
-use Rattle.model.specs.EffectLaws.{fit-long, long-fits, effect-long, length-record}
-use Rattle.containment.specs.Kept.{task-made, object-made, object-moved, object-cleared, marks-only, mark-kept, task-marked, task-below, object-below, field-zeros, sound-start}
+use Rattle.model.specs.EffectLaws.{fit-long, long-fits, effect-long}
 use Rattle.containment.specs.Claims.{LeavesSound}
 
 abbrev Sound : Order → Memory → Type 0
 Sound o m = (lengthsFit m ≡ true) × (sound o (m .bytes) ≡ true)
-
-object-used : (m : Memory) (x : ℕ) → object m x ≡ true → inUse m x ≡ true
-unfolding object isObject inUse
-object-used m x e = ap (λ (k : ℕ). not (eqb k 0)) (eqb-true (kind (m .bytes) x) 2 e)
 
 -- ---- each kind of effect
 
@@ -54,7 +53,10 @@ where-sound : (o : Order) (p : ℕ → Bool) (m : Memory) → sound o (m .bytes)
 unfolding inUse
 where-sound o p m h used =
     where-keeps p m (λ v. (sound o (v .bytes) ≡ true) × ((x : ℕ) → kind (v .bytes) x ≡ kind (m .bytes) x))
-    (λ x v l e n q. (mark-kept o (v .bytes) (q .0) x l (rw (q .1 x) (eqb-false _ _ (not-true _ (used x e)))), λ y. marks-only o (v .bytes) (q .0) x l 1 y ∙ q .1 y)) (h, λ x. refl) .0
+    (λ x v l e n q. (
+      mark-kept o (v .bytes) (q .0) x 1 (rw (q .1 x) (eqb-false _ _ (not-true _ (used x e)))) (inl refl),
+      λ y. field-else (v .bytes) x 5 1 y 0 (omega arith) (omega arith) (inr (omega arith)) ∙ q .1 y,
+    )) (h, λ x. refl) .0
 
 effect-sound : (o : Order) (m : Memory) (e : Effect) → sound o (m .bytes) ≡ true → Allowed o m e → sound o (effect e m .bytes) ≡ true
 unfolding effect inUse task object objectOf isTask isObject
@@ -62,14 +64,20 @@ effect-sound o m (flow x y) h a = h
 effect-sound o m (flow-if b x y) h a = h
 effect-sound o m (read-access e x) h a = h
 effect-sound o m (write-access e x) h a = h
-effect-sound o m (make-task n l r) h a = task-made o (m .bytes) h n (a .0) (eqb-true _ _ (not-false _ (a .1))) l r (a .2) (a .3)
-effect-sound o m (make-object n l d c b) h a = object-made o (m .bytes) h n (a .0) (eqb-true _ _ (not-false _ (a .1))) l d c b (a .2) (a .3) (a .4)
-effect-sound o m (move-to x c) h a = object-moved o (m .bytes) h x c (object-below o (m .bytes) h x (a .0)) (a .0) (a .1) (a .2)
-effect-sound o m (clear x) h a = object-cleared o (m .bytes) h x (object-below o (m .bytes) h x (a .0)) (a .0) (λ y i. a .1 y (object-below o (m .bytes) h y i) i)
+effect-sound o m (make-task n l r) h a = task-made o (m .bytes) h n l r (a .0) (eqb-true _ _ (not-false _ (a .1))) (ltb-true _ _ (a .2)) (ltb-true _ _ (a .3))
+effect-sound o m (make-object n l d c b) h a =
+    object-made o (m .bytes) h n l d c (one b) (a .0) (eqb-true _ _ (not-false _ (a .1))) (ltb-true _ _ (a .2)) (eqb-true _ _ (a .3)) (⊎-elim inl (λ q. inr (eqb-true _ _ q)) (a .4)) (go b)
+  where
+    go : (b : Bool) → (one b ≡ 0) ⊎ (one b ≡ 1)
+    go true = inr refl
+    go false = inl refl
+effect-sound o m (move-to x c) h a = object-moved o (m .bytes) h x c (eqb-true _ _ (a .0)) (eqb-true _ _ (a .1)) (a .2)
+effect-sound o m (clear x) h a =
+    object-cleared o (m .bytes) h x (eqb-true _ _ (a .0)) (λ y k. a .1 y (in-use o (m .bytes) h y (omega arith)) (eq-eqb _ _ k))
 effect-sound o m (mark-outside e) h a =
-    let l = task-below o (m .bytes) h e a in
-    where-sound o _ _ (task-marked o (m .bytes) h e l (eqb-true _ _ a))
-    (λ x q. rw (marks-only o (m .bytes) h e l 3 x) (object-used m x (and-l (object m x) (eqb (driverOf m x) e) q)))
+    let k : kind (m .bytes) e ≡ 1 = eqb-true _ _ a in
+    where-sound o _ _ (mark-kept o (m .bytes) h e 3 (omega arith) (inr (refl, k)))
+    (λ x q. rw (field-else (m .bytes) e 5 3 x 0 (omega arith) (omega arith) (inr (omega arith))) (object-used m x (and-l (object m x) (eqb (driverOf m x) e) q)))
 effect-sound o m (mark-thing x) h a =
     where-sound o _ m h
     (λ y q. ⊎-elim (λ d. rw (eqb-true y x d) a) (λ d. object-used m y ((simp and-eq-true-iff at d) .1 .0)) (or-cases (eqb y x) _ q))
@@ -101,17 +109,12 @@ round-sound o m h =
 
 -- ---- every call
 
-zeros-long : (n : ℕ) → length {A = ℕ} (replicate n 0) ≡ n
-zeros-long n = length-replicate n 0
-
 started-sound : (o : Order) → orderPasses o ≡ true → Sound o (started o)
 unfolding started
 started-sound o h =
     let q = is-order o h in
-    let long = zeros-long (recordSize * numbers) in (
-      long-fits (record { bytes-long = length-record _ 0 1 (o .top) (o .top) 0 0 0 ∙ long; words-long = zeros-long (rowSize * (numbers * tables)) }),
-      sound-start o _ long (field-zeros (recordSize * numbers)) (lt-ltb _ _ (both-in o 0 (o .top) (q .upper 0 (q .some)) .1)),
-    )
+    let s = sound-start o (recordSize * numbers) refl (both-in o 0 (o .top) (q .upper 0 (q .some)) .1) in
+    (long-fits (record { bytes-long = long o _ s; words-long = length-replicate {A = ℕ} (rowSize * (numbers * tables)) 0 }), s)
 
 pub leaves-sound : LeavesSound
 unfolding read write execute create createRoot move delete callTask invoke pass post find mark step spread start started

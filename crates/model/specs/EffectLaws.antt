@@ -1,21 +1,21 @@
 -- What each effect does to what the memory says. At a concrete effect, or list of effects, each law computes to one equation.
 -- Assumes nothing.
 use mathlib.Core.Path.{_≡_, refl, sym, ap, ap₂, _∙_}
-use mathlib.Core.Logic.{_⊎_, inl, inr}
+use mathlib.Core.Logic.{_⊎_, inl, inr, ⊎-elim}
 use mathlib.Core.Bool.{Bool, true, false, not, cond, _&&_, _||_, and-eq-true-iff}
 use mathlib.Core.List.{List, [], _∷_}
 use Prim.Native.Nat.{ℕ, zero, suc, _+_, _*_, _<_}
 use native.Mathlib.Nat.{zero-add}
 use native.Mathlib.Omega.{arith}
 use lib.Dec.{eqb}
-use lib.ListN.{length, getD, length-set, getD-replicate}
-use lib.Seq.{getD-set-same, getD-set-other}
+use lib.ListN.{length, getD, getD-replicate}
 use borrow.Author.Tests.{eqb-true, eqb-false, eq-eqb, ne-eqb}
 use Rattle.bits.specs.All.{one}
 use Rattle.bits.specs.AllLaws.{either, and-i, and-l, and-r, or-false, or-true, both-ways}
 use Rattle.rows.specs.Rows.{cell, addCell}
 use Rattle.rows.specs.RowLaws.{cell-add, cell-clear, length-add, length-clear}
 use Rattle.records.specs.Records.{numbers, recordSize, field, setField, setRecord, marks, isTask, isObject}
+use Rattle.records.specs.RecordLaws.{field-same, field-else, length-field, Fields, length-record, record-else, record-same}
 use Rattle.model.specs.State.{Memory, rowSize, tables, lengthsFit, inUse, task, object, levelOf, readLevelOf, driverOf, containerOf, marked, hasFlow, hasRead, hasWrite}
 use Rattle.model.specs.Effects.{Effect, flow, flow-if, read-access, write-access, make-task, make-object, move-to, clear, mark-outside, mark-thing, objectOf, withBytes, effect, effects}
 use Rattle.model.specs.MarkLaws.{where-words, where-length, where-field, where-marks, marked-where}
@@ -56,14 +56,6 @@ abbrev pub AllFit : List Effect → Type 0
 AllFit es = AllOf Fits es
 
 -- ---- lengths
-
-pub length-field : (bs : List ℕ) (x f v : ℕ) → length (setField bs x f v) ≡ length bs
-unfolding setField
-length-field bs x f v = length-set bs _ _
-
-pub length-record : (bs : List ℕ) (x k l r d c w : ℕ) → length (setRecord bs x k l r d c w) ≡ length bs
-unfolding setRecord
-length-record bs x k l r d c w = simp length-field
 
 pub effect-bytes : (e : Effect) (m : Memory) → length (effect e m .bytes) ≡ length (m .bytes)
 unfolding effect
@@ -233,48 +225,36 @@ Apart f (clear y) = Unit {0}
 Apart f (mark-outside e) = f ≡ 5 → ⊥
 Apart f (mark-thing y) = f ≡ 5 → ⊥
 
-pub field-set : (bs : List ℕ) (y g v x f : ℕ) → length bs ≡ recordSize * numbers → y < numbers → g < 8 → f < 8
+field-set : (bs : List ℕ) (y g v x f : ℕ) → length bs ≡ recordSize * numbers → y < numbers → g < 8 → f < 8
     → field (setField bs y g v) x f ≡ cond (eqb f g && eqb x y) v (field bs x f)
-unfolding field setField
 field-set bs y g v x f l ly lg lf = go (either (eqb f g)) (either (eqb x y))
   where
     go : (eqb f g ≡ true) ⊎ (eqb f g ≡ false) → (eqb x y ≡ true) ⊎ (eqb x y ≡ false) → field (setField bs y g v) x f ≡ cond (eqb f g && eqb x y) v (field bs x f)
-    go (inl e) (inl d) =
-        let e′ = eqb-true f g e in
-        let d′ = eqb-true x y d in
-        rw (e, d, e′, d′) (getD-set-same bs (8 * y + g) v 0 (omega arith))
-    go (inl e) (inr d) = let d′ = eqb-false x y d in rw (e, d) (getD-set-other bs (8 * y + g) (8 * x + f) v 0 (λ q. d′ (omega arith)))
-    go (inr e) d = let e′ = eqb-false f g e in rw e (getD-set-other bs (8 * y + g) (8 * x + f) v 0 (λ q. e′ (omega arith)))
+    go (inl e) (inl d) = rw (e, d, eqb-true f g e, eqb-true x y d) (field-same bs y g v (omega arith))
+    go (inl e) (inr d) = rw (e, d) (field-else bs y g v x f lg lf (inl (eqb-false x y d)))
+    go (inr e) d = rw e (field-else bs y g v x f lg lf (inr (eqb-false f g e)))
 
 cond-ap : {A : Type 0} (t : ℕ → A) (b : Bool) (u v : ℕ) → t (cond b u v) ≡ cond b (t u) (t v)
 cond-ap t true u v = refl
 cond-ap t false u v = refl
 
-pub field-record : (bs : List ℕ) (n k l r d c w x f : ℕ) → length bs ≡ recordSize * numbers → n < numbers → f < 8
+field-record : (bs : List ℕ) (n k l r d c w x f : ℕ) → length bs ≡ recordSize * numbers → n < numbers → f < 8
     → field (setRecord bs n k l r d c w) x f ≡ cond (eqb x n) (getD (k ∷ l ∷ r ∷ d ∷ c ∷ w ∷ 0 ∷ 0 ∷ []) f 0) (field bs x f)
-unfolding setRecord
-field-record bs n k l r d c w x f len ln = at f
+field-record bs n k l r d c w x f len ln lf =
+    ⊎-elim (λ (e : eqb x n ≡ true). rw (e, eqb-true x n e) (at f lf)) (λ (e : eqb x n ≡ false). rw e (record-else bs n k l r d c w x f (eqb-false x n e) lf)) (either (eqb x n))
   where
-    put : (f g v : ℕ) (b : List ℕ) {old : ℕ} → f < 8 → g < 8 → (length b ≡ recordSize * numbers) × (field b x f ≡ old)
-        → (length (setField b n g v) ≡ recordSize * numbers) × (field (setField b n g v) x f ≡ cond (eqb f g && eqb x n) v old)
-    put f g v b lf lg h = (length-field b n g v ∙ h .0, field-set b n g v x f (h .0) ln lg lf ∙ ap (cond (eqb f g && eqb x n) v) (h .1))
+    new : Fields (setRecord bs n k l r d c w) n k l r d c w
+    new = record-same bs n k l r d c w len ln
 
-    all : (f : ℕ) → f < 8 → field (setRecord bs n k l r d c w) x f
-        ≡ cond (eqb f 7 && eqb x n) 0 (cond (eqb f 6 && eqb x n) 0 (cond (eqb f 5 && eqb x n) w (cond (eqb f 4 && eqb x n) c
-        (cond (eqb f 3 && eqb x n) d (cond (eqb f 2 && eqb x n) r (cond (eqb f 1 && eqb x n) l (cond (eqb f 0 && eqb x n) k (field bs x f))))))))
-    all f h =
-        put f 7 0 _ h (omega arith) (put f 6 0 _ h (omega arith) (put f 5 w _ h (omega arith) (put f 4 c _ h (omega arith)
-        (put f 3 d _ h (omega arith) (put f 2 r _ h (omega arith) (put f 1 l _ h (omega arith) (put f 0 k bs h (omega arith) (len, refl)))))))) .1
-
-    at : (f : ℕ) → f < 8 → field (setRecord bs n k l r d c w) x f ≡ cond (eqb x n) (getD (k ∷ l ∷ r ∷ d ∷ c ∷ w ∷ 0 ∷ 0 ∷ []) f 0) (field bs x f)
-    at zero h = all 0 h
-    at (suc zero) h = all 1 h
-    at (suc (suc zero)) h = all 2 h
-    at (suc (suc (suc zero))) h = all 3 h
-    at (suc (suc (suc (suc zero)))) h = all 4 h
-    at (suc (suc (suc (suc (suc zero))))) h = all 5 h
-    at (suc (suc (suc (suc (suc (suc zero)))))) h = all 6 h
-    at (suc (suc (suc (suc (suc (suc (suc zero))))))) h = all 7 h
+    at : (f : ℕ) → f < 8 → field (setRecord bs n k l r d c w) n f ≡ getD (k ∷ l ∷ r ∷ d ∷ c ∷ w ∷ 0 ∷ 0 ∷ []) f 0
+    at zero h = new .kind-is
+    at (suc zero) h = new .level-is
+    at (suc (suc zero)) h = new .read-is
+    at (suc (suc (suc zero))) h = new .driver-is
+    at (suc (suc (suc (suc zero)))) h = new .container-is
+    at (suc (suc (suc (suc (suc zero))))) h = new .marks-are
+    at (suc (suc (suc (suc (suc (suc zero)))))) h = new .first-is
+    at (suc (suc (suc (suc (suc (suc (suc zero))))))) h = new .last-is
     at (suc (suc (suc (suc (suc (suc (suc (suc f)))))))) h = absurd (omega arith)
 
 record-test : {A : Type 0} (t : ℕ → A) (bs : List ℕ) (n k l r d c w x f : ℕ) → length bs ≡ recordSize * numbers → n < numbers → f < 8

@@ -7,27 +7,15 @@ use mathlib.Core.List.{List}
 use Prim.Native.Nat.{ℕ, _+_, _*_, _<_}
 use native.Mathlib.Omega.{arith}
 use lib.Dec.{eqb, ltb}
-use lib.ListN.{length, length-set}
-use lib.Seq.{getD-set-same, getD-set-other, set-out}
+use lib.ListN.{length}
+use lib.Seq.{set-out}
 use borrow.Author.Tests.{eqb-true, eqb-false, ltb-true, ltb-false}
 use Rattle.bits.specs.AllLaws.{either}
 use Rattle.bits.specs.LoopLaws.{up-keeps, up-from}
-use Rattle.records.specs.Records.{numbers, recordSize, field, setField, isTask, isObject}
+use Rattle.records.specs.Records.{numbers, field, setField, isTask, isObject}
+use Rattle.records.specs.RecordLaws.{field-same, field-else, length-field}
 use Rattle.model.specs.State.{Memory, task, object, inUse, marked, levelOf, readLevelOf, driverOf, containerOf, hasFlow, hasRead, hasWrite}
 use Rattle.model.specs.Effects.{markOne, markWhere}
-
-field-same : (bs : List ℕ) (x f v : ℕ) → recordSize * x + f < length bs → field (setField bs x f v) x f ≡ v
-unfolding field setField
-field-same bs x f v h = getD-set-same bs (recordSize * x + f) v 0 h
-
-field-else : (bs : List ℕ) (x f v x′ f′ : ℕ) → f < 8 → f′ < 8 → (x′ ≡ x → ⊥) ⊎ (f′ ≡ f → ⊥) → field (setField bs x f v) x′ f′ ≡ field bs x′ f′
-unfolding field setField
-field-else bs x f v x′ f′ l l′ (inl n) = getD-set-other bs (8 * x + f) (8 * x′ + f′) v 0 (λ e. n (omega arith))
-field-else bs x f v x′ f′ l l′ (inr n) = getD-set-other bs (8 * x + f) (8 * x′ + f′) v 0 (λ e. n (omega arith))
-
-length-field : (bs : List ℕ) (x f v : ℕ) → length (setField bs x f v) ≡ length bs
-unfolding setField
-length-field bs x f v = length-set bs _ _
 
 -- after the store of a mark, past the end too
 stored : (bs : List ℕ) (y x : ℕ) → (field (setField bs y 5 1) x 5 ≡ 1) ⊎ (field (setField bs y 5 1) x 5 ≡ field bs x 5)
@@ -36,7 +24,7 @@ stored bs y x = go (either (eqb x y)) (either (ltb (8 * y + 5) (length bs)))
   where
     go : (eqb x y ≡ true) ⊎ (eqb x y ≡ false) → (ltb (8 * y + 5) (length bs) ≡ true) ⊎ (ltb (8 * y + 5) (length bs) ≡ false)
         → (field (setField bs y 5 1) x 5 ≡ 1) ⊎ (field (setField bs y 5 1) x 5 ≡ field bs x 5)
-    go (inl e) (inl l) = let f = eqb-true x y e in inl (rw f (getD-set-same bs (8 * y + 5) 1 0 (ltb-true _ _ l)))
+    go (inl e) (inl l) = let f = eqb-true x y e in inl (rw f (field-same bs y 5 1 (ltb-true _ _ l)))
     go (inl e) (inr l) = inr (rw (set-out bs (8 * y + 5) 1 (ltb-false _ _ l)))
     go (inr e) l = inr (field-else bs y 5 1 x 5 (omega arith) (omega arith) (inl (eqb-false x y e)))
 

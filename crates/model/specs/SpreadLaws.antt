@@ -36,7 +36,7 @@ unfolding marked field
 marked-below m x h e =
     lt-of-not-le (λ (l : numbers ≤ x). let z = List·getD-eq-default (m .bytes) 0 {n = recordSize * x + 5} (omega arith) in false≢true (rw z at e))
 
-object-used : (m : Memory) (x : ℕ) → object m x ≡ true → inUse m x ≡ true
+pub object-used : (m : Memory) (x : ℕ) → object m x ≡ true → inUse m x ≡ true
 unfolding object isObject inUse
 object-used m x e = ap (λ (k : ℕ). not (eqb k 0)) (eqb-true (kind (m .bytes) x) 2 e)
 
