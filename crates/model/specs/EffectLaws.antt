@@ -1,4 +1,4 @@
--- What each effect does to what the memory says. At a concrete effect, or list of effects, each law computes to one equation.
+-- What each effect does to what the memory says. At a concrete effect each law computes to one equation.
 -- Assumes nothing.
 use mathlib.Core.Path.{_≡_, refl, sym, ap, ap₂, _∙_}
 use mathlib.Core.Logic.{_⊎_, inl, inr, ⊎-elim}
@@ -48,13 +48,6 @@ Fits (clear x) = x < numbers
 Fits (mark-outside e) = e < numbers
 Fits (mark-thing x) = x < numbers
 
-abbrev pub AllOf : (Effect → Type 0) → List Effect → Type 0
-AllOf Q [] = Unit {0}
-AllOf Q (e ∷ es) = Q e × AllOf Q es
-
-abbrev pub AllFit : List Effect → Type 0
-AllFit es = AllOf Fits es
-
 -- ---- lengths
 
 pub effect-bytes : (e : Effect) (m : Memory) → length (effect e m .bytes) ≡ length (m .bytes)
@@ -91,20 +84,6 @@ pub effects-long : (es : List Effect) {m : Memory} → Long m → Long (effects 
 unfolding effects
 effects-long [] l = l
 effects-long (e ∷ es) l = effects-long es (effect-long e l)
-
--- ---- a list of effects, seen effect by effect
-
-abbrev pub inTurn : {A : Type 0} → (Effect → A → A) → List Effect → A → A
-inTurn f [] a = a
-inTurn f (e ∷ es) a = inTurn f es (f e a)
-
--- what is seen after a list follows from what is seen before it, where that is so of each effect
-pub lift : {A : Type 0} (see : Memory → A) (after : Effect → A → A) (Q : Effect → Type 0)
-    → ((e : Effect) (m : Memory) → Long m → Q e → see (effect e m) ≡ after e (see m))
-    → (es : List Effect) (m : Memory) → Long m → AllOf Q es → see (effects es m) ≡ inTurn after es (see m)
-unfolding effects
-lift see after Q h [] m l f = refl
-lift see after Q h (e ∷ es) m l f = lift see after Q h es (effect e m) (effect-long e l) (f .1) ∙ ap (inTurn after es) (h e m l (f .0))
 
 -- ---- flows and accesses: table 0, 1 and 2
 
@@ -187,15 +166,6 @@ module _ (u v : ℕ) (lu : u < numbers) (lv : v < numbers) where
   pub write-after : (e : Effect) (m : Memory) → Long m → Fits e → hasWrite (effect e m) u v ≡ cellAfter 2 u v e (hasWrite m u v)
   unfolding hasWrite
   write-after e m l f = table-after 2 e m (omega arith) l f u v lu lv
-
-  pub flows-after : (es : List Effect) (m : Memory) → Long m → AllFit es → hasFlow (effects es m) u v ≡ inTurn (cellAfter 0 u v) es (hasFlow m u v)
-  flows-after = lift (λ m. hasFlow m u v) (cellAfter 0 u v) Fits flow-after
-
-  pub reads-after : (es : List Effect) (m : Memory) → Long m → AllFit es → hasRead (effects es m) u v ≡ inTurn (cellAfter 1 u v) es (hasRead m u v)
-  reads-after = lift (λ m. hasRead m u v) (cellAfter 1 u v) Fits read-after
-
-  pub writes-after : (es : List Effect) (m : Memory) → Long m → AllFit es → hasWrite (effects es m) u v ≡ inTurn (cellAfter 2 u v) es (hasWrite m u v)
-  writes-after = lift (λ m. hasWrite m u v) (cellAfter 2 u v) Fits write-after
 
 -- ---- the bytes of a record, but for the marks that marking changes
 
@@ -346,27 +316,6 @@ module _ (x : ℕ) where
   pub container-after : (e : Effect) (m : Memory) → Long m → Fits e → containerOf (effect e m) x ≡ byteAfter (λ k. k) x 4 e (containerOf m x)
   container-after = see (λ k. k) 4 (omega arith) (omega arith)
 
-  pub inUses-after : (es : List Effect) (m : Memory) → Long m → AllFit es → inUse (effects es m) x ≡ inTurn (byteAfter (λ k. not (eqb k 0)) x 0) es (inUse m x)
-  inUses-after = lift (λ m. inUse m x) _ Fits inUse-after
-
-  pub tasks-after : (es : List Effect) (m : Memory) → Long m → AllFit es → task (effects es m) x ≡ inTurn (byteAfter (λ k. eqb k 1) x 0) es (task m x)
-  tasks-after = lift (λ m. task m x) _ Fits task-after
-
-  pub objects-after : (es : List Effect) (m : Memory) → Long m → AllFit es → object (effects es m) x ≡ inTurn (byteAfter (λ k. eqb k 2) x 0) es (object m x)
-  objects-after = lift (λ m. object m x) _ Fits object-after
-
-  pub levels-after : (es : List Effect) (m : Memory) → Long m → AllFit es → levelOf (effects es m) x ≡ inTurn (byteAfter (λ k. k) x 1) es (levelOf m x)
-  levels-after = lift (λ m. levelOf m x) _ Fits level-after
-
-  pub readLevels-after : (es : List Effect) (m : Memory) → Long m → AllFit es → readLevelOf (effects es m) x ≡ inTurn (byteAfter (λ k. k) x 2) es (readLevelOf m x)
-  readLevels-after = lift (λ m. readLevelOf m x) _ Fits readLevel-after
-
-  pub drivers-after : (es : List Effect) (m : Memory) → Long m → AllFit es → driverOf (effects es m) x ≡ inTurn (byteAfter (λ k. k) x 3) es (driverOf m x)
-  drivers-after = lift (λ m. driverOf m x) _ Fits driver-after
-
-  pub containers-after : (es : List Effect) (m : Memory) → Long m → AllFit es → containerOf (effects es m) x ≡ inTurn (byteAfter (λ k. k) x 4) es (containerOf m x)
-  containers-after = lift (λ m. containerOf m x) _ Fits container-after
-
   -- ---- marks
 
   -- byte 5 itself, after an effect that marks nothing
@@ -376,14 +325,6 @@ module _ (x : ℕ) where
   pub marked-after : (e : Effect) (m : Memory) → Long m → Fits e × Apart 5 e → marked (effect e m) x ≡ markedAfter x e (marked m x)
   unfolding marked
   marked-after e m l h = byte-after (λ k. not (eqb k 0)) x 5 (omega arith) e m l (h .0) (h .1) ∙ same-marked x e (marked m x)
-
-  pub allMarks-after : (es : List Effect) (m : Memory) → Long m → AllOf (λ e. Fits e × Apart 5 e) es
-      → marks (effects es m .bytes) x ≡ inTurn (byteAfter (λ k. k) x 5) es (marks (m .bytes) x)
-  allMarks-after = lift (λ m. marks (m .bytes) x) _ _ marks-after
-
-  pub allMarked-after : (es : List Effect) (m : Memory) → Long m → AllOf (λ e. Fits e × Apart 5 e) es
-      → marked (effects es m) x ≡ inTurn (markedAfter x) es (marked m x)
-  allMarked-after = lift (λ m. marked m x) (markedAfter x) _ marked-after
 
   -- after the two that mark
   module _ (m : Memory) (l : Long m) (lx : x < numbers) where

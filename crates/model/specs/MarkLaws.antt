@@ -190,33 +190,3 @@ module _ (p : ℕ → Bool) (m : Memory) where
 
   pub where-more : MoreMarks m (markWhere p m)
   where-more = record { words-kept = where-words; length-kept = where-length; bytes-kept = where-field; marks-kept = where-kept }
-
-  pub where-inUse : (x : ℕ) → inUse (markWhere p m) x ≡ inUse m x
-  where-inUse = kept-inUse where-more
-
-  pub where-task : (x : ℕ) → task (markWhere p m) x ≡ task m x
-  where-task = kept-task where-more
-
-  pub where-object : (x : ℕ) → object (markWhere p m) x ≡ object m x
-  where-object = kept-object where-more
-
-  pub where-level : (x : ℕ) → levelOf (markWhere p m) x ≡ levelOf m x
-  where-level = kept-level where-more
-
-  pub where-readLevel : (x : ℕ) → readLevelOf (markWhere p m) x ≡ readLevelOf m x
-  where-readLevel = kept-readLevel where-more
-
-  pub where-driver : (x : ℕ) → driverOf (markWhere p m) x ≡ driverOf m x
-  where-driver = kept-driver where-more
-
-  pub where-container : (x : ℕ) → containerOf (markWhere p m) x ≡ containerOf m x
-  where-container = kept-container where-more
-
-  pub where-flow : (x y : ℕ) → hasFlow (markWhere p m) x y ≡ hasFlow m x y
-  where-flow = kept-flow where-more
-
-  pub where-read : (x y : ℕ) → hasRead (markWhere p m) x y ≡ hasRead m x y
-  where-read = kept-read where-more
-
-  pub where-write : (x y : ℕ) → hasWrite (markWhere p m) x y ≡ hasWrite m x y
-  where-write = kept-write where-more

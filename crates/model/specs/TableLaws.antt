@@ -1,7 +1,7 @@
 -- What a verdict tells: a call that is done passed all its tests and leaves its effects; one that is refused leaves the memory.
 -- Assumes nothing.
 use mathlib.Core.Path.{_≡_, refl, sym, ap, _∙_}
-use mathlib.Core.Bool.{Bool, true, false, cond, _&&_, true≢false}
+use mathlib.Core.Bool.{Bool, true, false, _&&_, true≢false}
 use mathlib.Core.List.{List, [], _∷_}
 use Prim.Native.Nat.{ℕ}
 use native.Mathlib.Omega.{arith}
@@ -32,16 +32,11 @@ abbrev pub Holds : List Test → Type 0
 Holds [] = Unit {0}
 Holds (need n ok ∷ rest) = (ok ≡ true) × Holds rest
 
-pub failing-holds : (ts : List Test) (last : ℕ) → refusals ts ≡ true → isDone (firstFailing ts last) ≡ true → Holds ts
+failing-holds : (ts : List Test) (last : ℕ) → refusals ts ≡ true → isDone (firstFailing ts last) ≡ true → Holds ts
 unfolding firstFailing unless
 failing-holds [] last r h = tt
 failing-holds (need n true ∷ ts) last r h = (refl, failing-holds ts last (and-r (leb row-number n) (refusals ts) r) h)
 failing-holds (need n false ∷ ts) last r h = absurd (omega (arith, leb-true n slipped h, leb-true row-number n (and-l (leb row-number n) (refusals ts) r)))
-
-pub holds-last : (ts : List Test) (last : ℕ) → Holds ts → firstFailing ts last ≡ last
-unfolding firstFailing unless
-holds-last [] last h = refl
-holds-last (need n ok ∷ ts) last h = rw (h .0) (holds-last ts last (h .1))
 
 -- ---- an event's outcome
 
@@ -49,17 +44,6 @@ holds-last (need n ok ∷ ts) last h = rw (h .0) (holds-last ts last (h .1))
 pub done-tests : (e : Event) → refusals (e .tests) ≡ true → isDone (verdictOf e) ≡ true → Holds (e .tests)
 unfolding verdictOf
 done-tests e r h = failing-holds (e .tests) _ r h
-
-pub tests-verdict : (e : Event) → Holds (e .tests) → verdictOf e ≡ cond (e .honest) granted slipped
-unfolding verdictOf unless
-tests-verdict e h = holds-last (e .tests) _ h
-
-pub tests-done : (e : Event) → Holds (e .tests) → isDone (verdictOf e) ≡ true
-tests-done e h = rw (tests-verdict e h) (go (e .honest))
-  where
-    go : (b : Bool) → isDone (cond b granted slipped) ≡ true
-    go true = refl
-    go false = refl
 
 pub outcome-done : (m : Memory) (e : Event) → isDone (verdictOf e) ≡ true → outcome m e .memory ≡ effects (e .effects) m
 unfolding outcome
