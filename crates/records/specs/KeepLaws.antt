@@ -1,5 +1,4 @@
--- What keeps the bytes sound. A record is judged by its own fields and by the kinds of its driver and its container, so a change at one
--- number keeps the others where that number stays what they need.
+-- What keeps the bytes sound: a change at one number, where that number stays what the others need.
 -- Assumes nothing.
 use mathlib.Core.Path.{_≡_, sym, ap, _∙_}
 use mathlib.Core.Logic.{_⊎_, inl, inr, ⊎-elim}
@@ -16,7 +15,7 @@ use Rattle.levels.specs.declared.Order.{Order}
 use Rattle.records.specs.Records.{numbers, recordSize, rootSign, field, setField, setRecord, kind, level, driver, container, marks, isTask, freeRecord, soundRecord, coreRecord, sound}
 use Rattle.records.specs.RecordLaws.{TaskFacts, ObjectFacts, Fields, free-at, task-at, object-at, kind-at, sound-else, free-passes, task-passes, object-passes, sound-i, long, core-at, record-at, core-task, in-use, task-facts, object-facts, kinds, field-same, field-else, length-field, length-record, record-else, record-same}
 
--- ---- what a record's soundness sees
+-- ---- what a record's soundness sees: its own fields, and the kinds of its driver and its container
 
 -- its container and marks aside, the record of x is in bs′ as it was in bs
 module _ (o : Order) (bs bs′ : List ℕ) (x : ℕ)

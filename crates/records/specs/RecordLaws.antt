@@ -245,7 +245,7 @@ length-field bs x f v = length-set bs _ _
 
 -- ---- the whole record
 
--- what a record with these fields says
+-- the record of x has these fields, and zeros in the spare bytes
 pub record Fields (bs : List ℕ) (x k l r d c m : ℕ) : Type 0 where
   pub kind-is : kind bs x ≡ k
   pub level-is : level bs x ≡ l

@@ -1,7 +1,6 @@
 // The records of the numbers, and the test that the bytes are sound.
 ghost use mathlib.Core.Path.{_≡_};
 ghost use Prim.Native.Nat.{_*_, _≤_, _<_};
-ghost use lib.Dec.{eqb};
 ghost use lib.ListN.{length, replicate};
 ghost use Rattle.records.specs.Records.{
   numbers,
