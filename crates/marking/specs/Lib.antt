@@ -1,3 +1,5 @@
 pub mod Sets
 pub mod SetLaws
 pub mod FirstLaws
+pub mod MarksLaws
+pub mod WalkLaws

@@ -6,13 +6,17 @@ use mathlib.Core.Bool.{Bool, true, false, not, cond, _&&_, _||_}
 use Prim.Native.Nat.{ℕ, _+_, _-_, _^_, _≤_, _<_}
 use native.Mathlib.Nat.{zero-add}
 use native.Mathlib.Omega.{arith}
+use lib.Bits.{bitOr}
 use lib.Dec.{ltb}
 use borrow.Author.Tests.{ltb-true, ltb-false, lt-ltb, le-ltb}
 use Rattle.bits.specs.Bit.{bit, wordOf}
-use Rattle.bits.specs.BitLaws.{bit-word, word-is, word-lt}
+use Rattle.bits.specs.BitLaws.{bit-zero, bit-or, bit-word, word-is, word-lt}
 use Rattle.bits.specs.AllLaws.{either}
 use Rattle.marking.specs.declared.sets.Set.{Set}
 use Rattle.marking.specs.Sets.{has, setOf}
+
+abbrev pub pair : ℕ → ℕ → Set
+pair a b = record { low = a; high = b }
 
 -- both are words
 pub record Fits (s : Set) : Type 0 where
@@ -58,7 +62,7 @@ pub set-ext : (p q : ℕ → Bool) → ((x : ℕ) → x < 128 → p x ≡ q x) �
 set-ext p q e = set-is q (setOf p) (set-fits p) (λ x l. has-set p x l ∙ e x l)
 
 -- a set by its two words
-pub set-pair : (p : ℕ → Bool) {a b : ℕ} → a ≡ wordOf (λ i. p (0 + i)) → b ≡ wordOf (λ i. p (64 + i)) → record { low = a; high = b } ≡ setOf p
+pub set-pair : (p : ℕ → Bool) {a b : ℕ} → a ≡ wordOf (λ i. p (0 + i)) → b ≡ wordOf (λ i. p (64 + i)) → pair a b ≡ setOf p
 unfolding setOf
 set-pair p e f =
     let low = e ∙ word-is p _ (word-lt _) (λ i l. bit-word (λ i. p (0 + i)) i l ∙ ap p (zero-add i)) in
@@ -68,9 +72,17 @@ set-pair p e f =
 
 module _ (op : Bool → Bool → Bool) (g : ℕ → ℕ → ℕ) (bit-g : (a b i : ℕ) → b < 2 ^ 64 → i < 64 → bit (g a b) i ≡ op (bit a i) (bit b i))
     (g-lt : (a b : ℕ) → a < 2 ^ 64 → b < 2 ^ 64 → g a b < 2 ^ 64) where
-  pub each-bit : (a b : Set) → Fits a → Fits b → record { low = g (a .low) (b .low); high = g (a .high) (b .high) } ≡ setOf (λ x. op (has a x) (has b x))
+  pub each-bit : (a b : Set) → Fits a → Fits b → pair (g (a .low) (b .low)) (g (a .high) (b .high)) ≡ setOf (λ x. op (has a x) (has b x))
   unfolding setOf
   each-bit a b fa fb =
       let low = word-is (λ x. op (has a x) (has b x)) _ (g-lt _ _ (fa .low) (fb .low)) (λ i l. bit-g _ _ i (fb .low) l ∙ ap₂ op (sym (has-low a i l)) (sym (has-low b i l))) in
       let high = word-is (λ i. op (has a (64 + i)) (has b (64 + i))) _ (g-lt _ _ (fa .high) (fb .high)) (λ i l. bit-g _ _ i (fb .high) l ∙ ap₂ op (sym (has-high a i l)) (sym (has-high b i l))) in
       λ i. record { low = low i; high = high i }
+
+pub has-or : (a b c d x : ℕ) → has (pair (bitOr a c) (bitOr b d)) x ≡ (has (pair a b) x || has (pair c d) x)
+unfolding has
+has-or a b c d x = ⊎-elim (λ e. rw e (bit-or a c x)) (λ e. rw e (bit-or b d (x - 64))) (either (ltb x 64))
+
+pub has-empty : (x : ℕ) → has (pair 0 0) x ≡ false
+unfolding has
+has-empty x = ⊎-elim (λ e. rw e (bit-zero x)) (λ e. rw e (bit-zero (x - 64))) (either (ltb x 64))

@@ -6,7 +6,7 @@ ghost use lib.Dec.{eqb};
 ghost use lib.ListN.{length};
 ghost use Rattle.bits.specs.Bit.{wordOf};
 ghost use Rattle.records.specs.Records.{field};
-ghost use Rattle.marking.specs.Sets.{has, setOf};
+ghost use Rattle.marking.specs.Sets.{has, setOf, inWord, joined};
 
 // Number x is bit x of the low word, or bit x - 64 of the high one.
 pub struct Set {
@@ -66,4 +66,33 @@ pub fn without(a: Set, b: Set) -> Set
         low: a.low & !b.low,
         high: a.high & !b.high,
     }
+}
+
+// Onto a set, the rows of the numbers of a word.
+fn join_word(words: &[u64], word: u64, first: usize, onto: Set) -> Set
+    requires { ⌜ (256 ≤ length (now words)) × (first ≤ 64) ⌝ }
+    ensures { λ r. ⌜ r ≡ setOf (λ x. has onto x || joined (now (words .entry)) (inWord word first) x) ⌝ }
+{
+    let mut low = onto.low;
+    let mut high = onto.high;
+    let mut rest = word;
+    while rest != 0 {
+        let row = 2 * (first + (bits::lowest_one(rest) as usize));
+        low = low | words[row];
+        high = high | words[row + 1];
+        rest = rest & (rest - 1);
+    }
+    Set {
+        low: low,
+        high: high,
+    }
+}
+
+// The rows of a set's numbers together.
+pub fn rows_of(words: &[u64], set: Set) -> Set
+    requires { ⌜ 256 ≤ length (now words) ⌝ }
+    ensures { λ r. ⌜ r ≡ setOf (λ x. joined (now (words .entry)) (has set) x) ⌝ }
+{
+    let low = join_word(words, set.low, 0, Set { low: 0, high: 0 });
+    join_word(words, set.high, 64, low)
 }

@@ -1,0 +1,71 @@
+-- What is joined and what is left to join make the same at every turn.
+-- Assumes nothing.
+use mathlib.Core.Path.{_≡_, refl, sym, ap, _∙_}
+use mathlib.Core.Bool.{Bool, _||_, or-assoc}
+use Prim.Native.Nat.{ℕ, _+_, _^_, _<_}
+use native.Mathlib.Omega.{arith}
+use lib.Bits.{or-lt}
+use lib.Count.{trailingZeros}
+use borrow.Author.Needs.{needs}
+use Rattle.bits.specs.BitLaws.{trailing-lt}
+use Rattle.bits.specs.AllLaws.{or-false}
+use Rattle.marking.specs.Sets.{has, setOf, inWord, joined}
+use Rattle.marking.specs.SetLaws.{Fits, pair, set-is}
+use Rattle.marking.specs.WalkLaws.{joined-next, joined-end, rest-less}
+use Rattle.marking.proofs.sets.join_word.Statement.{statement}
+use Rattle.marking.proofs.sets.join_word.Tie as tie
+
+abbrev Inv-loop : tie.InvT-loop
+Inv-loop words word first low₀ high₀ rest₀ low high rest =
+    (rest < 2 ^ 64) × Fits (pair low high)
+    × ((x : ℕ) → x < 128 → (has (pair low high) x || joined words (inWord rest first) x) ≡ (has (pair low₀ high₀) x || joined words (inWord word first) x))
+
+abbrev μ-loop : tie.MeasureT-loop
+μ-loop words word first low₀ high₀ rest₀ low high rest = rest
+
+loop-holds : tie.Need-loop-holds Inv-loop μ-loop
+loop-holds c = (search needs, record { low = search needs; high = search needs }, λ x l. refl)
+
+place : (c : tie.After-lowest-one Inv-loop μ-loop) → c .lowest-one .result < 64
+place c = let l = c .before .before .loop in rw (c .lowest-one .ensures) (trailing-lt 64 (l .rest) (l .inv .0) (omega arith))
+
+loop-less : tie.Need-loop-less Inv-loop μ-loop
+loop-less c = rest-less _ (omega arith)
+
+loop-again : tie.Need-loop-again Inv-loop μ-loop
+loop-again c =
+    let l = c .before .before .before .before .loop in
+    let a = c .before .before .before .before .before .before .args in
+    let p : 0 < l .rest = omega arith in (
+      omega (arith, rest-less (l .rest) p),
+      record { low = or-lt 64 _ _ (l .inv .1 .low) (c .shared-slice-known3 .given _ .fits); high = or-lt 64 _ _ (l .inv .1 .high) (c .shared-slice-known3 .given _ .fits) },
+      λ x b. joined-next (a .words .now) (l .low) (l .high) (l .rest) (a .first) _ x (l .inv .0) p (omega arith) (c .before .before .lowest-one .ensures) b ∙ l .inv .2 x b,
+    )
+
+returns : tie.Need-returns Inv-loop μ-loop
+returns c =
+    let l = c .before .loop in
+    let a = c .before .before .before .args in
+    set-is _ _ (l .inv .1)
+    (λ x b. sym (ap (λ (q : Bool). has (pair (l .low) (l .high)) x || q) (ap (λ (w : ℕ). joined (a .words .now) (inWord w (a .first)) x) (c .loop-test .left) ∙ joined-end (a .words .now) (a .first) x) ∙ or-false _) ∙ l .inv .2 x b)
+
+pub join-word-spec : {M : Type 1} → statement M
+join-word-spec =
+    tie.close
+    (tie.spec
+    Inv-loop
+    μ-loop
+    loop-holds
+    (λ c κs. search needs)
+    (λ c. search needs)
+    (λ c. omega (arith, place c))
+    (λ c. omega (arith, place c))
+    (λ c. omega (arith, place c))
+    (λ c. omega (arith, place (c .before)))
+    (λ c. omega (arith, place (c .before)))
+    (λ c. omega (arith, place (c .before)))
+    (λ c. omega (arith, place (c .before .before)))
+    (λ c. omega arith)
+    loop-less
+    loop-again
+    returns)
