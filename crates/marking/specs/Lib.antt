@@ -3,3 +3,4 @@ pub mod SetLaws
 pub mod FirstLaws
 pub mod MarksLaws
 pub mod WalkLaws
+pub mod EffectLaws

@@ -4,19 +4,19 @@ use mathlib.Core.Path.{_≡_, refl, sym, ap, _∙_}
 use mathlib.Core.Logic.{_⊎_, inl, inr, ⊎-elim}
 use mathlib.Core.Bool.{Bool, true, false, not, cond, _&&_, _||_, true≢false, or-assoc}
 use mathlib.Core.List.{List}
-use Prim.Native.Nat.{ℕ, _+_, _*_, _/_, _%_, _<_}
+use Prim.Native.Nat.{ℕ, _+_, _*_, _/_, _%_, _≤_, _<_}
 use native.Mathlib.Omega.{arith}
-use lib.Dec.{eqb}
+use lib.Dec.{eqb, leb}
 use lib.ListN.{length, getD, set, length-set}
 use lib.Seq.{ext-getD}
-use borrow.Author.Tests.{eqb-true, eqb-false, eq-eqb, ne-eqb, not-false}
+use borrow.Author.Tests.{eqb-true, eqb-false, eq-eqb, ne-eqb, not-false, leb-true, le-leb, lt-leb}
 use Rattle.bits.specs.All.{one}
-use Rattle.bits.specs.AllLaws.{either, both-ways, and-l, and-r, and-i, and-false, or-false}
+use Rattle.bits.specs.AllLaws.{either, both-ways, and-l, and-r, and-i, and-true, and-false, or-false}
 use Rattle.rows.specs.RowLaws.{getD-set}
 use Rattle.records.specs.Records.{numbers, field, setField}
 use Rattle.model.specs.State.{Memory, memory, marked}
-use Rattle.model.specs.Effects.{markWhere}
-use Rattle.model.specs.MarkLaws.{MoreMarks, kept-marked, more-then, more-none, where-more, where-length, where-new, where-not}
+use Rattle.model.specs.Effects.{markWhere, objectOf}
+use Rattle.model.specs.MarkLaws.{MoreMarks, kept-marked, kept-object, kept-driver, more-then, more-none, where-more, where-length, where-new, where-not}
 use Rattle.model.specs.SpreadLaws.{Sized}
 
 -- n is m with a mark for each unmarked number that passes
@@ -131,6 +131,14 @@ module _ (bs ws : List ℕ) (x : ℕ) where
         new = λ y l d. let z : getD bs (8 * y + 5) 0 ≡ 0 = no-mark (memory bs ws) y d in z ∙ sym (rw (ne-eqb y x (λ q. e (ap (λ (k : ℕ). getD bs (8 * k + 5) 0) (sym q) ∙ z))));
       }
 
+  -- a mark where b holds and there is none
+  pub marks-when : (b : Bool) → length bs ≡ 1024 → x < numbers → (b && eqb (getD bs (8 * x + 5) 0) 0) ≡ true → Marks (memory bs ws) (λ y. b && eqb y x) (memory (set bs (8 * x + 5) 1) ws)
+  marks-when b h l e = rw (and-l b (eqb (getD bs (8 * x + 5) 0) 0) e) (marks-store h l (eqb-true _ 0 (and-r b (eqb (getD bs (8 * x + 5) 0) 0) e)))
+
+  pub marks-unless : (b : Bool) → (b && eqb (getD bs (8 * x + 5) 0) 0) ≡ false → Marks (memory bs ws) (λ y. b && eqb y x) (memory bs ws)
+  marks-unless true e = marks-there (eqb-false _ 0 e)
+  marks-unless false e = marks-none _
+
 -- ---- a loop that marks: n is m with the marks of some of all, and the rest is left
 
 pub record Left (m n : Memory) (all rest : ℕ → Bool) : Type 0 where
@@ -140,6 +148,9 @@ pub record Left (m n : Memory) (all rest : ℕ → Bool) : Type 0 where
 
 pub left-all : (m : Memory) (all : ℕ → Bool) → Left m m all all
 left-all m all = record { done = λ x. false; marks = marks-none m; parts = λ x l. refl }
+
+pub left-from : {m n : Memory} {all rest rest′ : ℕ → Bool} → Left m n all rest → ((x : ℕ) → x < numbers → rest′ x ≡ rest x) → Left m n all rest′
+left-from g e = record { done = g .done; marks = g .marks; parts = λ x l. ap (λ (b : Bool). g .done x || b) (e x l) ∙ g .parts x l }
 
 pub left-less : {m n v : Memory} {all rest rest′ q : ℕ → Bool} → Left m n all rest → Marks n q v → ((x : ℕ) → x < numbers → rest x ≡ (q x || rest′ x)) → Left m v all rest′
 left-less {rest′ = rest′} {q = q} g f e =
@@ -153,8 +164,34 @@ pub left-none : {m n : Memory} {all rest : ℕ → Bool} → Sized m → Left m 
 left-none {m} {all = all} h g e =
     marks-same h (g .marks) (marks-where all m h) (λ x l d. sym (or-false (g .done x)) ∙ ap (λ (b : Bool). g .done x || b) (sym (e x l)) ∙ g .parts x l)
 
+-- a loop over the numbers: those from x on that pass are x, if it does, and those after it
+pub from-here : (p : ℕ → Bool) (x y : ℕ) → (leb x y && p y) ≡ ((p x && eqb y x) || (leb (x + 1) y && p y))
+from-here p x y = ⊎-elim here past (either (eqb y x))
+  where
+    here : eqb y x ≡ true → (leb x y && p y) ≡ ((p x && eqb y x) || (leb (x + 1) y && p y))
+    here e =
+        let d : y ≡ x = eqb-true y x e in
+        let a : leb x x ≡ true = le-leb x x (omega arith) in
+        let b : leb (x + 1) x ≡ false = lt-leb (x + 1) x (omega arith) in
+        rw (d, a, b, eq-eqb x x refl) (sym (or-false _ ∙ and-true (p x)))
+
+    past : eqb y x ≡ false → (leb x y && p y) ≡ ((p x && eqb y x) || (leb (x + 1) y && p y))
+    past e =
+        let n : y ≡ x → ⊥ = eqb-false y x e in
+        rw (e, and-false (p x))
+        (ap (λ (b : Bool). b && p y)
+        (both-ways (leb x y) (leb (x + 1) y)
+        (λ l. let h : x ≤ y = leb-true x y l in le-leb (x + 1) y (omega arith))
+        (λ l. let h : x + 1 ≤ y = leb-true (x + 1) y l in le-leb x y (omega arith))))
+
 -- ---- one after the other
 
 pub where-then : (m : Memory) (p q r : ℕ → Bool) → Sized m → ((x : ℕ) → x < numbers → r x ≡ (p x || q x)) → markWhere q (markWhere p m) ≡ markWhere r m
 where-then m p q r h e =
     marks-same h (marks-then (marks-where p m h) (marks-where q _ (where-length p m ∙ h))) (marks-where r m h) (λ x l d. sym (e x l))
+
+-- ---- what reads no marks
+
+pub kept-objectOf : {m n : Memory} → MoreMarks m n → (d x : ℕ) → objectOf n d x ≡ objectOf m d x
+unfolding objectOf
+kept-objectOf g d x = rw (kept-object g x, kept-driver g x)

@@ -2,10 +2,19 @@
 mod marks;
 mod sets;
 
+use levels::Order;
 use model::Report;
 ghost use mathlib.Core.Path.{_≡_};
+ghost use mathlib.Core.Bool.{true};
 ghost use Prim.Native.Nat.{_-_, _<_};
+ghost use lib.ListN.{length};
 ghost use Rattle.bits.specs.Bit.{bit};
+ghost use Rattle.levels.specs.declared.Order.{Order};
+ghost use Rattle.levels.specs.Order.{orderPasses};
+ghost use Rattle.records.specs.Records.{sound};
+ghost use Rattle.model.specs.State.{memory};
+ghost use Rattle.model.specs.Events as events;
+ghost use Rattle.model.specs.Events.{left, outcome, verdictOf};
 ghost use Rattle.model.specs.Monitor.{firstFrom, nextMarked};
 
 // How many numbers there are.
@@ -41,4 +50,45 @@ pub fn next_marked(report: Report, from: u16) -> u16
     } else {
         NUMBERS
     }
+}
+
+// A task is marked from outside, and its objects are marked.
+pub fn mark(bytes: &mut [u8], words: &[u64], order: Order, task: u16) -> u8
+    requires { ⌜ (length (now bytes) ≡ 1024) × (length (now words) ≡ 768) × (orderPasses order ≡ true) × (sound order (now bytes) ≡ true) ⌝ }
+    ensures { λ r. ⌜ left r 0 (now (bytes .exit)) (now (words .entry)) ≡ outcome (memory (now (bytes .entry)) (now (words .entry))) (events.mark order (memory (now (bytes .entry)) (now (words .entry))) task) ⌝ }
+{
+    if !records::is_task(bytes, task) {
+        return model::NUMBER;
+    }
+    marks::mark_outside(bytes, task);
+    model::GRANTED
+}
+
+fn step_verdict(bytes: &[u8], words: &[u64], x: u16) -> u8
+    requires { ⌜ length (now bytes) ≡ 1024 ⌝ }
+    ensures { λ r. ⌜ ((order : Order) → r ≡ verdictOf (events.step order (memory (now (bytes .entry)) (now (words .entry))) x)) ⌝ }
+{
+    if records::field(bytes, x, records::KIND) == records::FREE {
+        return model::NUMBER;
+    }
+    if records::field(bytes, x, records::MARKS) != 0 {
+        return model::STILL;
+    }
+    if marks::is_fed(bytes, words, x) {
+        model::GRANTED
+    } else {
+        model::STILL
+    }
+}
+
+// An unmarked thing that a marked one has a flow to is marked and, for a task, its objects.
+pub fn step(bytes: &mut [u8], words: &[u64], order: Order, x: u16) -> u8
+    requires { ⌜ (length (now bytes) ≡ 1024) × (length (now words) ≡ 768) × (orderPasses order ≡ true) × (sound order (now bytes) ≡ true) ⌝ }
+    ensures { λ r. ⌜ left r 0 (now (bytes .exit)) (now (words .entry)) ≡ outcome (memory (now (bytes .entry)) (now (words .entry))) (events.step order (memory (now (bytes .entry)) (now (words .entry))) x) ⌝ }
+{
+    let verdict = step_verdict(bytes, words, x);
+    if verdict == model::GRANTED {
+        marks::mark_thing(bytes, x);
+    }
+    verdict
 }

@@ -1,17 +1,25 @@
 // The marks of records.
 use crate::sets::Set;
 ghost use mathlib.Core.Path.{_≡_};
-ghost use mathlib.Core.List.{List};
+ghost use mathlib.Core.Bool.{_&&_};
+ghost use mathlib.Core.List.{List, []};
 ghost use Prim.Native.Nat.{ℕ, _≤_, _<_};
 ghost use lib.ListN.{length};
-ghost use Rattle.model.specs.State.{memory};
-ghost use Rattle.model.specs.Effects.{markWhere};
+ghost use Rattle.bits.specs.All.{anyB};
+ghost use Rattle.records.specs.Records.{field};
+ghost use Rattle.model.specs.State.{memory, marked, hasFlow};
+ghost use Rattle.model.specs.Effects.{markWhere, objectOf, effect, mark-outside, mark-thing};
 ghost use Rattle.marking.specs.Sets.{has, inWord};
 
 const RECORD_SIZE: usize = 8;
 
-// Where the marks stand in a record.
+// Where the driver and the marks stand in a record.
+const DRIVER: usize = 3;
+
 const MARKS: usize = 5;
+
+// How many numbers there are.
+const NUMBERS: usize = 128;
 
 // The numbers of a word are marked. A mark that is there stays as it is.
 fn mark_word(bytes: &mut [u8], word: u64, first: usize)
@@ -35,4 +43,66 @@ pub fn mark_set(bytes: &mut [u8], set: Set)
 {
     mark_word(bytes, set.low, 0);
     mark_word(bytes, set.high, 64);
+}
+
+// x is an object of the driver.
+fn is_object_of(bytes: &[u8], driver: u16, x: usize) -> bool
+    requires { ⌜ (length (now bytes) ≡ 1024) × (x < 128) ⌝ }
+    ensures { λ r. ⌜ r ≡ objectOf (memory (now (bytes .entry)) []) driver x ⌝ }
+{
+    let at = RECORD_SIZE * x;
+    (bytes[at] == records::OBJECT) & (bytes[at + DRIVER] as u16 == driver)
+}
+
+// The objects of a driver are marked.
+pub fn mark_objects(bytes: &mut [u8], driver: u16)
+    requires { ⌜ length (now bytes) ≡ 1024 ⌝ }
+    ensures { λ _. ⌜ ((ws : List ℕ) → memory (now (bytes .exit)) ws ≡ markWhere (objectOf (memory (now (bytes .entry)) ws) driver) (memory (now (bytes .entry)) ws)) ⌝ }
+{
+    let mut x = 0;
+    while x < NUMBERS {
+        if is_object_of(bytes, driver, x) & (bytes[RECORD_SIZE * x + MARKS] == 0) {
+            bytes[RECORD_SIZE * x + MARKS] = 1;
+        }
+        x += 1;
+    }
+}
+
+// The marks byte of a task marked from outside.
+const OUTSIDE: u8 = 3;
+
+// A task is marked from outside, and its objects are marked.
+pub fn mark_outside(bytes: &mut [u8], task: u16)
+    requires { ⌜ (length (now bytes) ≡ 1024) × (task < 128) ⌝ }
+    ensures { λ _. ⌜ ((ws : List ℕ) → memory (now (bytes .exit)) ws ≡ effect (mark-outside task) (memory (now (bytes .entry)) ws)) ⌝ }
+{
+    records::set_field(bytes, task, records::MARKS, OUTSIDE);
+    mark_objects(bytes, task);
+}
+
+// An unmarked thing is marked and, for a task, its objects.
+pub fn mark_thing(bytes: &mut [u8], x: u16)
+    requires { ⌜ (length (now bytes) ≡ 1024) × (x < 128) × (field (now bytes) x 5 ≡ 0) ⌝ }
+    ensures { λ _. ⌜ ((ws : List ℕ) → memory (now (bytes .exit)) ws ≡ effect (mark-thing x) (memory (now (bytes .entry)) ws)) ⌝ }
+{
+    let drives = records::is_task(bytes, x);
+    records::set_field(bytes, x, records::MARKS, 1);
+    if drives {
+        mark_objects(bytes, x);
+    }
+}
+
+// A marked thing has a flow to x.
+pub fn is_fed(bytes: &[u8], words: &[u64], x: u16) -> bool
+    requires { ⌜ length (now bytes) ≡ 1024 ⌝ }
+    ensures { λ r. ⌜ r ≡ anyB 128 (λ y. marked (memory (now (bytes .entry)) (now (words .entry))) y && hasFlow (memory (now (bytes .entry)) (now (words .entry))) y x) ⌝ }
+{
+    let mut y: u16 = 0;
+    while y < 128 {
+        if (bytes[RECORD_SIZE * (y as usize) + MARKS] != 0) & rows::has(words, y, x) {
+            return true;
+        }
+        y += 1;
+    }
+    false
 }

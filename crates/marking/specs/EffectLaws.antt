@@ -1,0 +1,79 @@
+-- Mark and step in the order of the code: the verdict first, then the thing's mark, then those of its objects.
+-- Assumes nothing.
+use mathlib.Core.Path.{_≡_, refl, sym, ap, _∙_}
+use mathlib.Core.Bool.{Bool, true, false, cond, _&&_, _||_, false≢true}
+use mathlib.Core.List.{List}
+use Prim.Native.Nat.{ℕ, _≤_, _<_}
+use native.Mathlib.Nat.{lt-of-not-le}
+use native.Mathlib.Omega.{arith}
+use lib.Dec.{eqb}
+use lib.ListN.{length, length-set}
+use Rattle.bits.specs.AllLaws.{not-so, and-false, or-false}
+use Rattle.records.specs.Records.{numbers, field, setField, isTask, isObject}
+use Rattle.records.specs.RecordLaws.{field-past}
+use Rattle.model.specs.State.{Memory, memory, inUse, task, object}
+use Rattle.model.specs.Verdicts.{granted, isDone}
+use Rattle.model.specs.Effects.{effects, markWhere, objectOf, effect, mark-outside, mark-thing}
+use Rattle.model.specs.Events.{Event, outcome, verdictOf}
+use Rattle.model.specs.TableLaws.{refusals, done-tests, tests-verdict}
+use Rattle.model.specs.SpreadLaws.{Sized}
+use Rattle.marking.specs.MarksLaws.{Marks, marks-same, marks-where, marks-then, marks-store, field-set, kept-objectOf}
+
+-- equal tests mark the same
+where-ext : (p q : ℕ → Bool) (m : Memory) → Sized m → ((x : ℕ) → x < numbers → p x ≡ q x) → markWhere p m ≡ markWhere q m
+where-ext p q m h e = marks-same h (marks-where p m h) (marks-where q m h) (λ x l d. e x l)
+
+module _ (bs ws : List ℕ) (x : ℕ) (h : length bs ≡ 1024) (l : x < numbers) where
+  -- a store to the marks changes no kind and no driver
+  object-else : (v d y : ℕ) → objectOf (memory (setField bs x 5 v) ws) d y ≡ objectOf (memory bs ws) d y
+  unfolding objectOf object isObject
+  object-else v d y = rw (other 0 (omega arith) refl, other 3 (omega arith) refl)
+    where
+      other : (f : ℕ) → f < 8 → eqb f 5 ≡ false → field (setField bs x 5 v) y f ≡ field bs y f
+      other f k e = field-set bs x 5 v y f (omega arith) (omega arith) k ∙ rw (e, and-false (eqb y x))
+
+  pub outside-is : markWhere (objectOf (memory (setField bs x 5 3) ws) x) (memory (setField bs x 5 3) ws) ≡ effect (mark-outside x) (memory bs ws)
+  unfolding effect setField
+  outside-is = where-ext _ _ _ (length-set bs _ _ ∙ h) (λ y b. object-else 3 x y)
+
+  module _ (z : field bs x 5 ≡ 0) where
+    stored : Marks (memory bs ws) (λ y. eqb y x) (memory (setField bs x 5 1) ws)
+    unfolding setField field
+    stored = marks-store bs ws x h l z
+
+    pub thing-alone : task (memory bs ws) x ≡ false → memory (setField bs x 5 1) ws ≡ effect (mark-thing x) (memory bs ws)
+    unfolding effect
+    thing-alone e = marks-same h stored (marks-where _ (memory bs ws) h) (λ y b d. sym (rw e (or-false (eqb y x))))
+
+    pub thing-drives : task (memory bs ws) x ≡ true → markWhere (objectOf (memory (setField bs x 5 1) ws) x) (memory (setField bs x 5 1) ws) ≡ effect (mark-thing x) (memory bs ws)
+    unfolding effect
+    thing-drives e =
+        marks-same h (marks-then stored (marks-where _ _ (stored .more .length-kept ∙ h))) (marks-where _ (memory bs ws) h)
+        (λ y b d. sym (rw e (ap (λ (q : Bool). eqb y x || q) (sym (object-else 1 x y)))))
+
+-- ---- a number that is in use
+
+pub used-below : (bs ws : List ℕ) (x : ℕ) → length bs ≡ 1024 → inUse (memory bs ws) x ≡ true → x < numbers
+unfolding inUse
+used-below bs ws x h e = lt-of-not-le (λ (l : numbers ≤ x). false≢true (sym (rw (field-past bs x 0 h l)) ∙ e))
+
+pub task-below : (bs ws : List ℕ) (x : ℕ) → length bs ≡ 1024 → task (memory bs ws) x ≡ true → x < numbers
+unfolding task isTask
+task-below bs ws x h e = lt-of-not-le (λ (l : numbers ≤ x). false≢true (sym (rw (field-past bs x 0 h l)) ∙ e))
+
+-- ---- an event with no honest test, from its verdict
+
+module _ (m : Memory) (e : Event) {v : ℕ} (is : v ≡ verdictOf e) where
+  pub made : {n : Memory} → v ≡ granted → n ≡ effects (e .effects) m → record { verdict = v; rounds = 0; memory = n } ≡ outcome m e
+  unfolding outcome
+  made {n} z f =
+      let d : verdictOf e ≡ 0 = sym is ∙ z in
+      let g : n ≡ cond (isDone (verdictOf e)) (effects (e .effects) m) m = f ∙ sym (rw d) in
+      λ i. record { verdict = is i; rounds = 0; memory = g i }
+
+  pub refused : refusals (e .tests) ≡ true → e .honest ≡ true → (v ≡ granted → ⊥) → record { verdict = v; rounds = 0; memory = m } ≡ outcome m e
+  unfolding outcome
+  refused r h n =
+      let d : isDone (verdictOf e) ≡ false = not-so _ (λ t. n (is ∙ tests-verdict e (done-tests e r t) ∙ rw h)) in
+      let g : m ≡ cond (isDone (verdictOf e)) (effects (e .effects) m) m = sym (rw d) in
+      λ i. record { verdict = is i; rounds = 0; memory = g i }
