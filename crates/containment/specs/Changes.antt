@@ -1,45 +1,28 @@
 -- The three kinds of change that keep the limits: of words, of the record of one number that is no task, and of marks.
 -- Assumes nothing.
-use mathlib.Core.Path.{_≡_, refl, sym, ap, subst, _∙_}
-use mathlib.Core.Bool.{Bool, true, false, not, _&&_, _||_, true≢false}
+use mathlib.Core.Path.{_≡_, refl, sym, ap, _∙_}
+use mathlib.Core.Bool.{true, false, true≢false}
 use mathlib.Core.Logic.{_⊎_, inl, inr, ⊎-elim}
 use mathlib.Core.List.{List, List·Memᴰ}
-use Prim.Native.Nat.{ℕ, _+_, _*_, _≤_, _<_}
+use Prim.Native.Nat.{ℕ, _<_}
 use native.Mathlib.Omega.{arith}
-use lib.Dec.{eqb, ltb}
-use lib.ListN.{length, List·getD-eq-default}
-use borrow.Author.Tests.{eqb-true, eqb-false, ltb-true, ltb-false, eq-eqb}
-use Rattle.bits.specs.AllLaws.{either, or-cases, or-l, or-r, and-l, and-r, and-i}
+use lib.Dec.{eqb}
+use lib.ListN.{length}
+use borrow.Author.Tests.{eqb-true, eqb-false}
+use Rattle.bits.specs.AllLaws.{either}
 use Rattle.levels.specs.declared.Order.{Order}
-use Rattle.levels.specs.Order.{atOrBelow}
-use Rattle.levels.specs.OrderLaws.{IsOrder}
 use Rattle.records.specs.Records as records
-use Rattle.records.specs.Records.{numbers, recordSize, field, isTask, isObject}
-use Rattle.model.specs.State.{Memory, lengthsFit, inUse, task, object, levelOf, readLevelOf, driverOf, marked, hasFlow, hasRead}
-use Rattle.model.specs.Effects.{withWords, withBytes}
+use Rattle.records.specs.Records.{numbers, field}
+use Rattle.model.specs.State.{Memory, lengthsFit, inUse, task, object, levelOf, driverOf, marked, hasFlow, hasRead}
+use Rattle.model.specs.StateLaws.{task-used, object-used, used-below}
+use Rattle.model.specs.Effects.{withWords}
+use Rattle.model.specs.EffectLaws.{fit-long}
 use Rattle.containment.specs.Lists.{Standing}
 use Rattle.containment.specs.Claims.{Covered}
-use Rattle.containment.specs.Invariant.{standing, Ends, Bounded, MayFlow, MayRead, Limits, covered-below}
-use Rattle.containment.specs.Follows.{Same, Follows, same-task, same-object, same-use, object-used, task-used, covered-same, covered-follows, bounded-follows, limits-follow}
+use Rattle.containment.specs.Invariant.{standing, Bounded, MayFlow, MayRead, Limits}
+use Rattle.containment.specs.Follows.{Same, Follows, same-task, same-use, covered-same, covered-follows, bounded-follows, limits-follow}
 
--- ---- lengths
-
-module _ (m : Memory) (h : lengthsFit m ≡ true) where
-  pub bytes-length : length (m .bytes) ≡ 1024
-  unfolding lengthsFit
-  bytes-length = eqb-true _ _ (and-l (eqb (length (m .bytes)) 1024) _ h)
-
-  pub words-length : length (m .words) ≡ 768
-  unfolding lengthsFit
-  words-length = eqb-true _ _ (and-r (eqb (length (m .bytes)) 1024) _ h)
-
-  -- what is in use is one of the numbers
-  pub used-below : (x : ℕ) → inUse m x ≡ true → x < numbers
-  unfolding inUse field
-  used-below x u = ⊎-elim (λ l. ltb-true x numbers l) (λ g. absurd (true≢false (sym u ∙ past (ltb-false x numbers g)))) (either (ltb x numbers))
-    where
-      past : numbers ≤ x → inUse m x ≡ false
-      past g = rw (List·getD-eq-default (m .bytes) 0 {n = recordSize * x + 0} (omega (arith, bytes-length)))
+-- ---- lengths and numbers
 
 pub fits-same : (m n : Memory) → length (n .bytes) ≡ length (m .bytes) → length (n .words) ≡ length (m .words) → lengthsFit m ≡ true → lengthsFit n ≡ true
 unfolding lengthsFit
@@ -72,20 +55,20 @@ words-limits s ws k l flows reads =
 
 module _ (o : Order) (m n : Memory) (ts : List ℕ) (p : ℕ) (k : Limits (standing o m ts)) (no-task : task m p ≡ false)
     (off : (x f : ℕ) → f < 8 → (x ≡ p → ⊥) → field (n .bytes) x f ≡ field (m .bytes) x f) where
-  pub off-same : (x : ℕ) → (x ≡ p → ⊥) → Same m n x
+  off-same : (x : ℕ) → (x ≡ p → ⊥) → Same m n x
   off-same x h = record { kind = off x 0 (omega arith) h; level = off x 1 (omega arith) h; read-level = off x 2 (omega arith) h; driver = off x 3 (omega arith) h }
 
   off-task : (x : ℕ) → task m x ≡ true → x ≡ p → ⊥
   off-task x h e = true≢false (sym h ∙ ap (task m) e ∙ no-task)
 
-  pub task-same : (x : ℕ) → task m x ≡ true → Same m n x
+  task-same : (x : ℕ) → task m x ≡ true → Same m n x
   task-same x h = off-same x (off-task x h)
 
   off-marked : (x : ℕ) → (x ≡ p → ⊥) → marked n x ≡ marked m x
   unfolding marked
   off-marked x h = rw (off x 5 (omega arith) h)
 
-  pub task-marked : (x : ℕ) → task m x ≡ true → marked n x ≡ marked m x
+  task-marked : (x : ℕ) → task m x ≡ true → marked n x ≡ marked m x
   task-marked x h = off-marked x (off-task x h)
 
   pub one-follows : (inUse m p ≡ true → inUse n p ≡ true → ⊥)
@@ -127,7 +110,7 @@ module _ (o : Order) (m n : Memory) (ts us : List ℕ) (k : Limits (standing o m
     (kept : (x f : ℕ) → f < 4 → field (n .bytes) x f ≡ field (m .bytes) x f)
     (grow : (x : ℕ) → x < numbers → marked m x ≡ true → marked n x ≡ true)
     (more : (t : ℕ) → List·Memᴰ t ts → List·Memᴰ t us) where
-  pub kept-same : (x : ℕ) → Same m n x
+  kept-same : (x : ℕ) → Same m n x
   kept-same x = record { kind = kept x 0 (omega arith); level = kept x 1 (omega arith); read-level = kept x 2 (omega arith); driver = kept x 3 (omega arith) }
 
   pub marks-follow : Follows o m n ts us
@@ -135,7 +118,7 @@ module _ (o : Order) (m n : Memory) (ts us : List ℕ) (k : Limits (standing o m
   marks-follow =
       record {
         tasks = λ x h. kept-same x;
-        marks = λ x h. grow x (used-below m (k .fits) x (task-used m x h));
+        marks = λ x h. grow x (used-below m x (fit-long m (k .fits) .bytes-long) (task-used m x h));
         things = λ x h g. kept-same x;
         named = more;
         flows = λ x y a b h.

@@ -1,18 +1,16 @@
 -- What a change of the memory has to keep for the limits to stay.
 -- Assumes nothing.
-use mathlib.Core.Path.{_≡_, refl, sym, ap, _∙_}
-use mathlib.Core.Bool.{Bool, true, false, not, _&&_, _||_, true≢false}
+use mathlib.Core.Path.{_≡_, refl, sym, _∙_}
+use mathlib.Core.Bool.{Bool, true, false, _||_}
 use mathlib.Core.Logic.{_⊎_, inl, inr, ⊎-elim}
 use mathlib.Core.List.{List, List·Memᴰ}
 use Prim.Native.Nat.{ℕ, _<_}
-use lib.Dec.{eqb}
-use borrow.Author.Tests.{eqb-true}
 use Rattle.levels.specs.declared.Order.{Order}
 use Rattle.levels.specs.Order.{atOrBelow}
 use Rattle.records.specs.Records as records
 use Rattle.records.specs.Records.{numbers, isTask, isObject}
+use Rattle.model.specs.StateLaws.{object-used}
 use Rattle.model.specs.State.{Memory, lengthsFit, inUse, task, object, levelOf, readLevelOf, driverOf, marked, hasFlow, hasRead}
-use Rattle.containment.specs.Lists.{Standing}
 use Rattle.containment.specs.Claims.{Covered}
 use Rattle.containment.specs.Invariant.{standing, Ends, Bounded, MayFlow, MayRead, Limits}
 
@@ -39,14 +37,6 @@ module _ {m n : Memory} {x : ℕ} (e : Same m n x) where
 or-more : {b c : Bool} (a : Bool) → (b ≡ true → c ≡ true) → (a || b) ≡ true → (a || c) ≡ true
 or-more true h e = refl
 or-more false h e = h e
-
-pub object-used : (m : Memory) (x : ℕ) → object m x ≡ true → inUse m x ≡ true
-unfolding object isObject inUse
-object-used m x h = rw (eqb-true (records.kind (m .bytes) x) 2 h)
-
-pub task-used : (m : Memory) (x : ℕ) → task m x ≡ true → inUse m x ≡ true
-unfolding task isTask inUse
-task-used m x h = rw (eqb-true (records.kind (m .bytes) x) 1 h)
 
 -- what is covered stays so where the tasks stay
 pub covered-same : (o : Order) (ts : List ℕ) {m n : Memory} → ((x : ℕ) → task m x ≡ true → Same m n x) → (l : ℕ) → Covered (standing o m ts) l → Covered (standing o n ts) l

@@ -1,17 +1,21 @@
 -- What every state reached from a start keeps, and how the limits on levels follow from one another.
 -- Assumes nothing.
-use mathlib.Core.Path.{_≡_, refl, sym}
-use mathlib.Core.Bool.{Bool, true, false, not, _&&_, _||_, true≢false}
+use mathlib.Core.Path.{_≡_}
+use mathlib.Core.Bool.{true, false, not, _||_}
 use mathlib.Core.Logic.{_⊎_, inl, inr, ⊎-elim}
 use mathlib.Core.List.{List, List·Memᴰ}
 use Prim.Native.Nat.{ℕ, _<_}
-use Rattle.bits.specs.AllLaws.{either, or-cases}
+use borrow.Author.Tests.{not-true}
+use Rattle.bits.specs.AllLaws.{or-cases}
 use Rattle.levels.specs.declared.Order.{Order}
 use Rattle.levels.specs.Order.{atOrBelow, orderPasses}
-use Rattle.levels.specs.OrderLaws.{IsOrder, is-order}
+use Rattle.levels.specs.OrderLaws.{IsOrder}
 use Rattle.records.specs.Records.{numbers, marks, sound}
 use Rattle.model.specs.State.{Memory, lengthsFit, inUse, task, object, levelOf, readLevelOf, driverOf, marked, hasFlow, hasRead}
+use Rattle.model.specs.StateLaws.{marked-below}
+use Rattle.model.specs.EffectLaws.{fit-long}
 use Rattle.model.specs.Events.{risky}
+use Rattle.model.specs.RiskLaws.{past-object, past-driver}
 use Rattle.containment.specs.Lists.{Standing}
 use Rattle.containment.specs.Claims.{Covered, Contained}
 
@@ -67,6 +71,7 @@ contained s k =
     }
 
 -- ---- how the limits follow from one another
+
 module _ (s : Standing) (ok : IsOrder (s .order)) where
   -- what is at or below a covered level is covered
   pub covered-below : (a b : ℕ) → atOrBelow (s .order) a b ≡ true → Covered s b → Covered s a
@@ -78,10 +83,32 @@ module _ (s : Standing) (ok : IsOrder (s .order)) where
   ends-trans x z y (inr c) (inl g) = inr (covered-below _ _ g c)
 
   module _ (k : Limits s) where
-    -- what ends at a marked thing, or at or below one
-    pub ends-marked : (x y : ℕ) → y < numbers → marked (s .memory) y ≡ true → Ends s x y
-    ends-marked x y l h = inr (k .bounded y l .mark-covered h)
+    covered-marked : (x : ℕ) → marked (s .memory) x ≡ true → Covered s (levelOf (s .memory) x)
+    covered-marked x h = k .bounded x (marked-below (s .memory) x (fit-long (s .memory) (k .fits) .bytes-long) h) .mark-covered h
 
-    pub ends-below-marked : (x d y : ℕ) → d < numbers → marked (s .memory) d ≡ true → atOrBelow (s .order) (levelOf (s .memory) y) (levelOf (s .memory) d) ≡ true
-        → Ends s x y
-    ends-below-marked x d y l h g = inr (covered-below _ _ g (k .bounded d l .mark-covered h))
+    -- a flow to a marked thing, and to one at or below a marked thing
+    pub to-marked : (x y : ℕ) → marked (s .memory) y ≡ true → Ends s x y
+    to-marked x y h = inr (covered-marked y h)
+
+    pub under-marked : (x d y : ℕ) → marked (s .memory) d ≡ true → atOrBelow (s .order) (levelOf (s .memory) y) (levelOf (s .memory) d) ≡ true → Ends s x y
+    under-marked x d y h g = inr (covered-below _ _ g (covered-marked d h))
+
+    -- what a marked thing flows to is covered
+    pub fed-covered : (y x : ℕ) → marked (s .memory) y ≡ true → Ends s y x → Covered s (levelOf (s .memory) x)
+    fed-covered y x h (inl g) = covered-below _ _ g (covered-marked y h)
+    fed-covered y x h (inr c) = c
+
+    -- what is read without risk, or by a marked task, flows within the limits
+    pub read-ends : (z x : ℕ) → MayRead s z x → (not (risky (s .order) (s .memory) z x) || marked (s .memory) z) ≡ true → Ends s x z
+    read-ends z x r h = ⊎-elim (λ n. safe (not-true (risky o m z x) n)) (to-marked x z) (or-cases (not (risky o m z x)) (marked m z) h)
+      where
+        o : Order
+        o = s .order
+
+        m : Memory
+        m = s .memory
+
+        safe : risky o m z x ≡ false → Ends s x z
+        safe n =
+            ⊎-elim (λ l. inl (past-object o m z x n l)) (λ g. under-marked x (driverOf m x) z g (past-driver o m z x n (r .path)))
+            (or-cases (atOrBelow o (levelOf m z) (levelOf m x) || atOrBelow o (readLevelOf m z) (levelOf m x)) (marked m (driverOf m x)) (r .honest))

@@ -1,29 +1,31 @@
 -- A start establishes the invariant, and every item of a list keeps it.
 -- Assumes nothing.
-use mathlib.Core.Path.{_≡_, refl, sym, ap, subst, _∙_}
-use mathlib.Core.Bool.{Bool, true, false, not, _&&_, _||_, and-eq-true-iff, true≢false, false≢true}
-use mathlib.Core.Logic.{_⊎_, inl, inr, ⊎-elim}
-use mathlib.Core.List.{List, [], _∷_, List·Memᴰ, List·Memᴰ·not-nil}
-use Prim.Native.Nat.{ℕ, zero, suc, _+_, _*_, _≤_, _<_}
+use mathlib.Core.Path.{_≡_, refl, sym, subst, _∙_}
+use mathlib.Core.Bool.{true, true≢false}
+use mathlib.Core.Logic.{_⊎_, ⊎-elim}
+use mathlib.Core.List.{List, [], _∷_, List·Memᴰ·not-nil}
+use Prim.Native.Nat.{ℕ, _*_, _<_}
 use native.Mathlib.Omega.{arith}
-use lib.Dec.{eqb, ltb}
-use lib.ListN.{length, getD, replicate, length-replicate}
-use borrow.Author.Tests.{eq-eqb, eqb-true, ltb-true}
-use Rattle.bits.specs.AllLaws.{either, and-i, all-at}
+use lib.ListN.{length, replicate, length-replicate}
+use borrow.Author.Tests.{eq-eqb, eqb-true}
+use Rattle.bits.specs.AllLaws.{either, and-i}
 use Rattle.rows.specs.RowLaws.{cell-zeros}
 use Rattle.levels.specs.declared.Order.{Order}
-use Rattle.levels.specs.Order.{atOrBelow, orderPasses}
+use Rattle.levels.specs.Order.{atOrBelow}
 use Rattle.levels.specs.OrderLaws.{IsOrder, is-order}
-use Rattle.records.specs.Records.{numbers, recordSize, field, isTask, isObject, taskRecord, soundRecord, sound}
-use Rattle.records.specs.RecordLaws.{sound-task}
+use Rattle.records.specs.Records.{numbers, recordSize, field, isTask, isObject, sound}
+use Rattle.records.specs.RecordLaws.{task-facts}
+use Rattle.records.specs.KeepLaws.{field-zero}
 use Rattle.model.specs.declared.Call.{Call}
 use Rattle.model.specs.declared.Call.the-variants.{Start, Read, Write, Execute, Create, CreateRoot, Move, Delete, CallTask, Invoke, Pass, Post, Find, Mark, Step, Spread}
 use Rattle.model.specs.Verdicts.{isDone}
 use Rattle.model.specs.State.{Memory, memory, rowSize, tables, lengthsFit, inUse, task, object, levelOf, driverOf, marked, hasFlow, hasRead}
-use Rattle.model.specs.Effects.{make-task, mark-outside, effect, effects}
-use Rattle.model.specs.Events.{Event, Outcome, outcome, read, write, execute, create, createRoot, move, delete, callTask, invoke, pass, post, find, mark, step}
-use Rattle.model.specs.Spread.{spread, marksSome}
-use Rattle.model.specs.Monitor.{fitted, started, start, perform}
+use Rattle.model.specs.StateLaws.{outside-mark}
+use Rattle.model.specs.EffectLaws.{fit-long}
+use Rattle.model.specs.Effects.{make-task, effect, effects}
+use Rattle.model.specs.Events.{Event, outcome, read, write, execute, create, createRoot, move, delete, callTask, invoke, pass, post, find, mark, step}
+use Rattle.model.specs.Spread.{spread}
+use Rattle.model.specs.Monitor.{fitted, started, perform}
 use Rattle.model.specs.MarkLaws.{MoreMarks, kept-marked, kept-object, kept-driver}
 use Rattle.model.specs.SpreadLaws.{Closed, rest-closed, sized-more, spread-more, spread-only, spread-rests}
 use Rattle.model.specs.TableLaws.{Holds, refusals, event-done, fitted-done, start-done, refused-keeps}
@@ -31,31 +33,22 @@ use Rattle.containment.specs.Lists.{Item, asks, reports, Standing, Role,
 use Rattle.containment.specs.Claims.{Covered}
 use Rattle.containment.specs.Soundness.{leaves-sound}
 use Rattle.containment.specs.Invariant.{standing, Limits, Invariant, covered-below}
-use Rattle.containment.specs.Follows.{same-object, task-used}
-use Rattle.containment.specs.Changes.{bytes-length, used-below, kept-same, marks-limits}
-use Rattle.containment.specs.Preserve.{AllAllowed, bounded-none, effect-keeps, effects-keep, outside-keeps, marked-3}
-use Rattle.containment.specs.EventsKeep.{read-allowed, write-allowed, execute-allowed, create-allowed, createRoot-allowed, move-allowed, delete-allowed, call-allowed, invoke-allowed, pass-allowed, post-allowed, find-allowed, step-allowed, fed-covered}
+use Rattle.containment.specs.Changes.{marks-limits}
+use Rattle.containment.specs.Preserve.{AllAllowed, bounded-none, effect-keeps, effects-keep, outside-keeps}
+use Rattle.containment.specs.FlowEvents.{read-allowed, write-allowed, call-allowed, invoke-allowed, pass-allowed, post-allowed, find-allowed, step-allowed}
+use Rattle.containment.specs.RecordEvents.{execute-allowed, create-allowed, createRoot-allowed, move-allowed, delete-allowed}
 
 -- ---- a start makes a task in an empty memory
 
 empty : Memory
 empty = memory (replicate (recordSize * numbers) 0) (replicate (rowSize * (numbers * tables)) 0)
 
-getD-zeros : (n i : ℕ) → _≡_ {A = ℕ} (getD (replicate n 0) i 0) 0
-getD-zeros zero i = refl
-getD-zeros (suc n) zero = refl
-getD-zeros (suc n) (suc i) = getD-zeros n i
-
-empty-field : (x f : ℕ) → field (empty .bytes) x f ≡ 0
-unfolding field empty
-empty-field x f = getD-zeros (recordSize * numbers) (recordSize * x + f)
-
 empty-limits : (o : Order) → Limits (standing o empty [])
 unfolding lengthsFit object isObject marked hasFlow hasRead empty
 empty-limits o =
     record {
       fits = and-i (eq-eqb _ _ (length-replicate {A = ℕ} (recordSize * numbers) 0)) (eq-eqb _ _ (length-replicate {A = ℕ} (rowSize * (numbers * tables)) 0));
-      bounded = λ x l. bounded-none (standing o empty []) x (rw (empty-field x 0)) (rw (empty-field x 5));
+      bounded = λ x l. bounded-none (standing o empty []) x (rw (field-zero _ x 0)) (rw (field-zero _ x 5));
       named = λ t h. absurd (List·Memᴰ·not-nil h);
       flows = λ x y a b h. absurd (true≢false (sym h ∙ cell-zeros rowSize (rowSize * (numbers * tables)) _ y));
       reads = λ z x a b h. absurd (true≢false (sym h ∙ cell-zeros rowSize (rowSize * (numbers * tables)) _ x));
@@ -63,7 +56,7 @@ empty-limits o =
 
 started-limits : (o : Order) → IsOrder o → Limits (standing o (started o) [])
 unfolding started effect empty inUse
-started-limits o ok = effect-keeps (standing o empty []) ok (empty-limits o) (make-task 0 (o .top) (o .top)) (omega arith, rw (empty-field 0 0))
+started-limits o ok = effect-keeps (standing o empty []) ok (empty-limits o) (make-task 0 (o .top) (o .top)) (omega arith, rw (field-zero _ 0 0))
 
 pub start-keeps : (o : Order) (m : Memory) → isDone (perform o m Start .verdict) ≡ true → Invariant (standing o (perform o m Start .memory) [])
 start-keeps o m h =
@@ -77,7 +70,7 @@ spread-limits s ok k =
     marks-limits (s .order) m n (s .outside) (s .outside) k (g .words-kept) kept (λ x l. kept-marked g x) (λ t h. h) (g .length-kept)
     (λ x l h. spread-only Q m closed sized (λ y a b. (a, k .bounded y a .mark-covered b)) x l h .1)
     (λ x l h d. rest-closed n (sized-more g sized) (spread-rests m sized) .by-driver (driverOf m x) x d l (kept-object g x ∙ h) (kept-driver g x))
-    (λ t h. let j = k .named t h in (j .0, g .marks-kept t (marked-3 s ok k t (j .1)) ∙ j .1))
+    (λ t h. let j = k .named t h in (j .0, g .marks-kept t (outside-mark m t (j .1)) ∙ j .1))
   where
     m : Memory
     m = s .memory
@@ -89,7 +82,7 @@ spread-limits s ok k =
     g = spread-more m
 
     sized : length (m .bytes) ≡ recordSize * numbers
-    sized = bytes-length m (k .fits)
+    sized = fit-long m (k .fits) .bytes-long
 
     kept : (x f : ℕ) → f < 4 → field (n .bytes) x f ≡ field (m .bytes) x f
     kept x f l = g .bytes-kept x f (omega arith) (omega arith)
@@ -108,12 +101,8 @@ spread-limits s ok k =
 
 -- a sound task's level is in the order
 task-self : (s : Standing) → Invariant s → (e : ℕ) → task (s .memory) e ≡ true → atOrBelow (s .order) (levelOf (s .memory) e) (levelOf (s .memory) e) ≡ true
-unfolding sound taskRecord task isTask
-task-self s i e t =
-    let p = simp and-eq-true-iff at (i .is-sound) in
-    let r = all-at numbers (λ x. soundRecord (s .order) (s .memory .bytes) x) (p .1) e (used-below (s .memory) (i .limits .fits) e (task-used (s .memory) e t)) in
-    let q = simp and-eq-true-iff at (sym (sound-task (s .order) (s .memory .bytes) e (eqb-true _ 1 t)) ∙ r) in
-    is-order (s .order) (i .passes) .self _ (ltb-true _ _ (q .0 .0 .0 .0 .0 .1))
+unfolding task isTask
+task-self s i e t = is-order (s .order) (i .passes) .self _ (task-facts (s .order) (s .memory .bytes) (i .is-sound) e (eqb-true _ 1 t) .level-in)
 
 abbrev NoStart : Role → Type 0
 NoStart starting = ⊥

@@ -6,7 +6,8 @@ pub mod Invariant
 pub mod Follows
 pub mod Changes
 pub mod Preserve
-pub mod EventsKeep
+pub mod FlowEvents
+pub mod RecordEvents
 pub mod ItemsKeep
 pub mod Proved
 pub mod SpreadProof

@@ -1,29 +1,29 @@
 -- Each effect keeps the limits, where it is allowed.
 -- Assumes nothing.
-use mathlib.Core.Path.{_≡_, refl, sym, ap, subst, _∙_}
+use mathlib.Core.Path.{_≡_, refl, sym, ap, _∙_}
 use mathlib.Core.Bool.{Bool, true, false, not, cond, _&&_, _||_, and-eq-true-iff, true≢false}
 use mathlib.Core.Logic.{_⊎_, inl, inr, ⊎-elim}
 use mathlib.Core.List.{List, [], _∷_, List·Memᴰ, List·Memᴰ·head, List·Memᴰ·tail, List·Memᴰ·cases-cons}
-use Prim.Native.Nat.{ℕ, _+_, _*_, _≤_, _<_}
+use Prim.Native.Nat.{ℕ, _<_}
 use lib.Dec.{eqb}
-use lib.ListN.{length}
 use borrow.Author.Tests.{eqb-true, eqb-false, eq-eqb, ne-eqb, not-true}
 use native.Mathlib.Omega.{arith}
-use Rattle.bits.specs.AllLaws.{or-cases, or-l, or-r, and-l, and-r, and-i, and-false, not-so}
+use Rattle.bits.specs.AllLaws.{or-cases, or-l, or-r, and-i, not-so}
 use Rattle.levels.specs.declared.Order.{Order}
 use Rattle.levels.specs.Order.{atOrBelow}
 use Rattle.levels.specs.OrderLaws.{IsOrder}
 use Rattle.records.specs.Records as records
-use Rattle.records.specs.Records.{numbers, field, isTask, isObject}
-use Rattle.model.specs.State.{Memory, lengthsFit, inUse, task, object, levelOf, readLevelOf, driverOf, marked, hasFlow, hasRead}
+use Rattle.records.specs.Records.{numbers, field}
+use Rattle.model.specs.State.{Memory, inUse, task, object, levelOf, driverOf, marked, hasFlow, hasRead}
+use Rattle.model.specs.StateLaws.{task-used, object-used, object-task, outside-mark, used-below}
 use Rattle.model.specs.Effects.{Effect, flow, flow-if, read-access, write-access, make-task, make-object, move-to, clear, mark-outside, mark-thing, objectOf, effect, effects}
 use Rattle.model.specs.MarkLaws.{where-words, where-field, where-kept}
-use Rattle.model.specs.EffectLaws.{Long, fit-long, long-fits, Fits, Apart, effect-long, effect-bytes, effect-words, flow-after, read-after, byte-after, inUse-after, object-after, level-after, driver-after, marks-after, marked-after, outside-marks, outside-marked, thing-marked, thing-marks}
+use Rattle.model.specs.EffectLaws.{Long, fit-long, long-fits, Fits, effect-long, effect-bytes, effect-words, flow-after, read-after, byte-after, inUse-after, object-after, level-after, driver-after, marks-after, marked-after, outside-marks, outside-marked, thing-marked}
 use Rattle.containment.specs.Lists.{Standing}
 use Rattle.containment.specs.Claims.{Covered}
-use Rattle.containment.specs.Invariant.{standing, Ends, Bounded, MayFlow, MayRead, Limits, covered-below}
-use Rattle.containment.specs.Follows.{Same, Follows, same-task, task-used, object-used, covered-follows}
-use Rattle.containment.specs.Changes.{used-below, words-limits, off-same, task-same, task-marked, one-follows, one-limits, marks-follow, marks-limits}
+use Rattle.containment.specs.Invariant.{standing, Bounded, MayFlow, MayRead, Limits, covered-below}
+use Rattle.containment.specs.Follows.{Same, Follows, same-task, covered-follows}
+use Rattle.containment.specs.Changes.{words-limits, one-follows, one-limits, marks-follow, marks-limits}
 
 abbrev pub after : Standing → Effect → Standing
 after s e = standing (s .order) (effect e (s .memory)) (s .outside)
@@ -47,7 +47,7 @@ Allowed s (make-object n l d c b) = MayMake s n l d b
 Allowed s (move-to x c) = object (s .memory) x ≡ true
 Allowed s (clear x) = object (s .memory) x ≡ true
 Allowed s (mark-outside e) = ⊥
-Allowed s (mark-thing x) = (inUse (s .memory) x ≡ true) × Covered s (levelOf (s .memory) x)
+Allowed s (mark-thing x) = Covered s (levelOf (s .memory) x)
 
 abbrev pub AllAllowed : Standing → List Effect → Type 0
 AllAllowed s [] = Unit {0}
@@ -84,7 +84,7 @@ module _ (s : Standing) (ok : IsOrder (s .order)) (k : Limits s) where
   long = fit-long m (k .fits)
 
   below : (x : ℕ) → inUse m x ≡ true → x < numbers
-  below = used-below m (k .fits)
+  below x = used-below m x (long .bytes-long)
 
   flow-keeps : (x y : ℕ) → MayFlow s x y → Limits (after s (flow x y))
   unfolding effect
@@ -139,7 +139,7 @@ module _ (s : Standing) (ok : IsOrder (s .order)) (k : Limits s) where
     task-off : (x f : ℕ) → f < 8 → (x ≡ n → ⊥) → field (effect (make-task n l r) m .bytes) x f ≡ field (m .bytes) x f
     task-off x f lf h = byte-after (λ b. b) x f lf (make-task n l r) m long a tt ∙ rw (ne-eqb x n h)
 
-    pub task-follows : Follows o m (effect (make-task n l r) m) (s .outside) (s .outside)
+    task-follows : Follows o m (effect (make-task n l r) m) (s .outside) (s .outside)
     unfolding effect
     task-follows = made-follows (make-task n l r) n free task-off refl
 
@@ -193,17 +193,13 @@ module _ (s : Standing) (ok : IsOrder (s .order)) (k : Limits s) where
   clear-off : (x : ℕ) → x < numbers → (y f : ℕ) → f < 8 → (y ≡ x → ⊥) → field (effect (clear x) m .bytes) y f ≡ field (m .bytes) y f
   clear-off x a y f lf h = byte-after (λ b. b) y f lf (clear x) m long a tt ∙ rw (ne-eqb y x h)
 
-  object-task : (x : ℕ) → object m x ≡ true → task m x ≡ false
-  unfolding object isObject task isTask
-  object-task x h = rw (eqb-true (records.kind (m .bytes) x) 2 h)
-
   module _ (x : ℕ) (h : object m x ≡ true) where
     object-below : x < numbers
     object-below = below x (object-used m x h)
 
     pub clear-follows : Follows o m (effect (clear x) m) (s .outside) (s .outside)
     clear-follows =
-        one-follows o m (effect (clear x) m) (s .outside) x k (object-task x h) (clear-off x object-below)
+        one-follows o m (effect (clear x) m) (s .outside) x k (object-task m x h) (clear-off x object-below)
         (λ g i. true≢false (sym i ∙ inUse-after x (clear x) m long object-below ∙ rw (eq-eqb x x refl)))
         (λ u v lu lv g. cut (hasFlow m u v) u v (sym (flow-after u v lu lv (clear x) m long object-below) ∙ g))
         (λ u v lu lv g. let c = cut (hasRead m u v) u v (sym (read-after u v lu lv (clear x) m long object-below) ∙ g) in (c .0, c .2))
@@ -215,7 +211,7 @@ module _ (s : Standing) (ok : IsOrder (s .order)) (k : Limits s) where
 
     clear-keeps : Limits (after s (clear x))
     clear-keeps =
-        one-limits o m (effect (clear x) m) (s .outside) x k (object-task x h) (clear-off x object-below) clear-follows (long-fits (effect-long (clear x) long))
+        one-limits o m (effect (clear x) m) (s .outside) x k (object-task m x h) (clear-off x object-below) clear-follows (long-fits (effect-long (clear x) long))
         (bounded-none (after s (clear x)) x
         (object-after x (clear x) m long object-below ∙ rw (eq-eqb x x refl))
         (marked-after x (clear x) m long (object-below, tt) ∙ rw (eq-eqb x x refl)))
@@ -241,10 +237,6 @@ module _ (s : Standing) (ok : IsOrder (s .order)) (k : Limits s) where
 
   -- ---- a thing is marked and, for a task, its objects
 
-  pub marked-3 : (t : ℕ) → records.marks (m .bytes) t ≡ 3 → marked m t ≡ true
-  unfolding marked
-  marked-3 t h = rw h
-
   module _ (x : ℕ) where
     -- y is x, or one of its objects
     abbrev Own : ℕ → Type 0
@@ -268,7 +260,7 @@ module _ (s : Standing) (ok : IsOrder (s .order)) (k : Limits s) where
     -- the objects of what is x's own are x's own, and at or below x
     own-driven : (y : ℕ) → y < numbers → object m y ≡ true → Own (driverOf m y) → Own y
     own-driven y l h (inl d) = inr (ap (task m) (sym d) ∙ k .bounded y l .driver-task h, h, d)
-    own-driven y l h (inr t) = absurd (true≢false (sym (k .bounded y l .driver-task h) ∙ object-task (driverOf m y) (t .1)))
+    own-driven y l h (inr t) = absurd (true≢false (sym (k .bounded y l .driver-task h) ∙ object-task m (driverOf m y) (t .1)))
 
     own-covered : (us : List ℕ) → Covered (standing o m us) (levelOf m x) → (y : ℕ) → y < numbers → Own y → Covered (standing o m us) (levelOf m y)
     own-covered us c y l (inl e) = rw e c
@@ -295,12 +287,12 @@ module _ (s : Standing) (ok : IsOrder (s .order)) (k : Limits s) where
         (or-cases (marked m d) (own d) (sym (marks d (below d (task-used m d (k .bounded y l .driver-task h)))) ∙ g)))
         named
 
-  thing-keeps : (x : ℕ) → inUse m x ≡ true → Covered s (levelOf m x) → Limits (after s (mark-thing x))
+  thing-keeps : (x : ℕ) → Covered s (levelOf m x) → Limits (after s (mark-thing x))
   unfolding effect
-  thing-keeps x u c =
+  thing-keeps x c =
       marking-keeps x (mark-thing x) (s .outside) (λ y l. thing-marked y m long l x) (where-words _ m)
       (λ y f lf. where-field _ m y f (omega arith) (omega arith)) (λ t h. h) c
-      (λ t h. let j = k .named t h in (j .0, where-kept _ m t (marked-3 t (j .1)) ∙ j .1))
+      (λ t h. let j = k .named t h in (j .0, where-kept _ m t (outside-mark m t (j .1)) ∙ j .1))
 
   -- e is named, so it covers itself
   pub outside-keeps : (e : ℕ) → task m e ≡ true → atOrBelow o (levelOf m e) (levelOf m e) ≡ true → Limits (standing o (effect (mark-outside e) m) (e ∷ s .outside))
@@ -327,7 +319,7 @@ module _ (s : Standing) (ok : IsOrder (s .order)) (k : Limits s) where
       earlier : (y : ℕ) → List·Memᴰ y (s .outside) → (task m y ≡ true) × (records.marks (effect (mark-outside e) m .bytes) y ≡ 3)
       earlier y h =
           let j = k .named y h in
-          (j .0, marks y (j .0) ∙ rw (marked-3 y (j .1), j .1) (still (eqb y e) (objectOf m e y)))
+          (j .0, marks y (j .0) ∙ rw (outside-mark m y (j .1), j .1) (still (eqb y e) (objectOf m e y)))
 
   -- ---- each effect, and a list of them
 
@@ -343,7 +335,7 @@ module _ (s : Standing) (ok : IsOrder (s .order)) (k : Limits s) where
   effect-keeps (move-to x c) a = move-keeps x a c
   effect-keeps (clear x) a = clear-keeps x a
   effect-keeps (mark-outside e) a = absurd a
-  effect-keeps (mark-thing x) a = thing-keeps x (a .0) (a .1)
+  effect-keeps (mark-thing x) a = thing-keeps x a
 
 pub effects-keep : (s : Standing) → IsOrder (s .order) → Limits s → (es : List Effect) → AllAllowed s es → Limits (standing (s .order) (effects es (s .memory)) (s .outside))
 unfolding effects

@@ -1,33 +1,30 @@
 -- The claims about lists, proved.
 -- Assumes nothing.
-use mathlib.Core.Path.{_≡_, refl, sym, ap, _∙_}
-use mathlib.Core.Bool.{Bool, true, false, cond, true≢false, and-eq-true-iff}
-use mathlib.Core.Logic.{_⊎_, inl, inr, ⊎-elim}
+use mathlib.Core.Path.{_≡_, sym, ap, _∙_}
+use mathlib.Core.Bool.{Bool, true, false, cond, and-eq-true-iff}
 use mathlib.Core.List.{List, [], _∷_, List·Memᴰ}
 use Prim.Native.Nat.{ℕ, _+_, _*_, _<_}
 use native.Mathlib.Omega.{arith}
-use lib.Dec.{eqb, leb}
+use lib.Dec.{leb}
 use lib.ListN.{set}
 use lib.Seq.{set-getD}
 use borrow.Author.Tests.{eqb-true, leb-true}
 use Rattle.bits.specs.AllLaws.{and-l, and-r}
 use Rattle.levels.specs.declared.Order.{Order}
-use Rattle.levels.specs.OrderLaws.{IsOrder, is-order}
-use Rattle.records.specs.Records.{numbers, recordSize, field, setField, marks, sound}
-use Rattle.model.specs.declared.Call.{Call}
-use Rattle.model.specs.declared.Call.the-variants.{Start, Mark}
+use Rattle.records.specs.Records.{numbers, recordSize, field, setField}
+use Rattle.model.specs.declared.Call.the-variants.{Start}
 use Rattle.model.specs.Verdicts.{granted, slipped, row-state, row-number, isDone}
-use Rattle.model.specs.State.{Memory, lengthsFit, task, object, driverOf, marked}
+use Rattle.model.specs.State.{Memory, driverOf, marked}
+use Rattle.model.specs.StateLaws.{outside-mark}
 use Rattle.model.specs.Effects.{withBytes, objectOf, mark-outside, effect, effects}
-use Rattle.model.specs.Events.{Test, need, Event, Outcome, unless, firstFailing, verdictOf, outcome, mark}
+use Rattle.model.specs.Events.{Test, need, Outcome, unless, firstFailing, verdictOf, outcome, mark}
 use Rattle.model.specs.Spread.{spread}
 use Rattle.model.specs.Monitor.{refusedUnless, fitted, start, started, perform}
 use Rattle.model.specs.MarkLaws.{where-rest}
 use Rattle.model.specs.TableLaws.{refusals, start-done, by-call}
 use Rattle.containment.specs.Lists.{Item, Standing, run, begun}
-use Rattle.containment.specs.Claims.{Reached, Contained, Containment, Determined, RepeatedMark, NeverUnsound}
+use Rattle.containment.specs.Claims.{Reached, Containment, Determined, RepeatedMark, NeverUnsound}
 use Rattle.containment.specs.Invariant.{standing, Limits, Invariant, contained}
-use Rattle.containment.specs.Preserve.{marked-3}
 use Rattle.containment.specs.ItemsKeep.{start-keeps, run-keeps}
 
 -- what a list begun by a granted start leaves
@@ -82,9 +79,9 @@ never-unsound o m is r c =
 
 -- ---- what is marked from outside is marked already, and its objects are
 
-mark-again : (s : Standing) → IsOrder (s .order) → Limits s → (e : ℕ) → List·Memᴰ e (s .outside) → effect (mark-outside e) (s .memory) ≡ s .memory
+mark-again : (s : Standing) → Limits s → (e : ℕ) → List·Memᴰ e (s .outside) → effect (mark-outside e) (s .memory) ≡ s .memory
 unfolding effect objectOf field setField
-mark-again s ok k e h = rw same (where-rest (objectOf m e) m own)
+mark-again s k e h = rw same (where-rest (objectOf m e) m own)
   where
     m : Memory
     m = s .memory
@@ -95,11 +92,11 @@ mark-again s ok k e h = rw same (where-rest (objectOf m e) m own)
     own : (x : ℕ) → x < numbers → objectOf m e x ≡ true → marked m x ≡ true
     own x l p =
         let t = simp and-eq-true-iff at p in
-        k .bounded x l .driven-marked (t .0) (ap (marked m) (eqb-true (driverOf m x) e (t .1)) ∙ marked-3 s ok k e (k .named e h .1))
+        k .bounded x l .driven-marked (t .0) (ap (marked m) (eqb-true (driverOf m x) e (t .1)) ∙ outside-mark m e (k .named e h .1))
 
 pub repeated-mark : RepeatedMark
 unfolding outcome verdictOf firstFailing unless mark effects
-repeated-mark o m is r e h = fitted-out s i _ ∙ rw (i .limits .named e h .0, mark-again s (is-order (s .order) (i .passes)) (i .limits) e h)
+repeated-mark o m is r e h = fitted-out s i _ ∙ rw (i .limits .named e h .0, mark-again s (i .limits) e h)
   where
     s : Standing
     s = run is (begun o m)

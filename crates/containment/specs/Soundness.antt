@@ -20,12 +20,13 @@ use Rattle.records.specs.KeepLaws.{task-made, object-made, object-moved, object
 use Rattle.model.specs.declared.Call.the-variants.{Start, Read, Write, Execute, Create, CreateRoot, Move, Delete, CallTask, Invoke, Pass, Post, Find, Mark, Step, Spread}
 use Rattle.model.specs.Verdicts.{isDone}
 use Rattle.model.specs.State.{Memory, rowSize, tables, lengthsFit, inUse, task, object, driverOf, containerOf}
+use Rattle.model.specs.StateLaws.{object-used}
 use Rattle.model.specs.Effects.{Effect, flow, flow-if, read-access, write-access, make-task, make-object, move-to, clear, mark-outside, mark-thing, objectOf, markWhere, effect, effects}
 use Rattle.model.specs.Events.{Event, outcome, read, write, execute, create, createRoot, move, delete, callTask, invoke, pass, post, find, mark, step}
 use Rattle.model.specs.Spread.{reached, driven, round, spread}
 use Rattle.model.specs.Monitor.{fitted, started, start}
 use Rattle.model.specs.MarkLaws.{where-keeps}
-use Rattle.model.specs.SpreadLaws.{object-used, after-keeps, spread-more}
+use Rattle.model.specs.SpreadLaws.{after-keeps, spread-more}
 use Rattle.model.specs.TableLaws.{Happened, refusals, event-done, fitted-done, start-done}
 use Rattle.model.specs.EffectLaws.{fit-long, long-fits, effect-long}
 use Rattle.containment.specs.Claims.{LeavesSound}

@@ -2,18 +2,17 @@
 -- Assumes nothing.
 use mathlib.Core.Path.{_≡_, refl, sym, ap, _∙_}
 use mathlib.Core.Logic.{_⊎_, inl, inr, ⊎-elim}
-use mathlib.Core.Bool.{Bool, true, false, not, _&&_, _||_, and-eq-true-iff, false≢true, true≢false}
-use Prim.Native.Nat.{ℕ, zero, suc, _+_, _*_, _≤_, _<_, zero-le}
-use native.Mathlib.Nat.{lt-of-not-le}
+use mathlib.Core.Bool.{Bool, true, false, not, _&&_, _||_, and-eq-true-iff, true≢false}
+use Prim.Native.Nat.{ℕ, zero, suc, _*_, _≤_, _<_, zero-le}
 use native.Mathlib.Omega.{arith}
-use lib.Dec.{eqb}
-use lib.ListN.{length, List·getD-eq-default}
-use borrow.Author.Tests.{eqb-true, not-true}
+use lib.ListN.{length}
+use borrow.Author.Tests.{not-true}
 use Rattle.bits.specs.All.{countB, _⇒_}
 use Rattle.bits.specs.AllLaws.{either, or-cases, or-l, or-r, and-i, any-i, any-at, all-fails, not-so}
 use Rattle.bits.specs.LoopLaws.{count-le, count-more}
-use Rattle.records.specs.Records.{numbers, recordSize, field, kind, isObject}
+use Rattle.records.specs.Records.{numbers, recordSize}
 use Rattle.model.specs.State.{Memory, inUse, object, driverOf, marked, hasFlow}
+use Rattle.model.specs.StateLaws.{object-used, marked-below}
 use Rattle.model.specs.Effects.{markWhere}
 use Rattle.model.specs.Spread.{reached, driven, round, marksSome, rounds, afterRounds, spread}
 use Rattle.model.specs.MarkLaws.{MoreMarks, kept-marked, kept-inUse, kept-object, kept-driver, kept-flow, more-then, more-none, where-more, where-length, marked-where}
@@ -29,16 +28,6 @@ Sized m = length (m .bytes) ≡ recordSize * numbers
 
 pub sized-more : {m n : Memory} → MoreMarks m n → Sized m → Sized n
 sized-more g h = g .length-kept ∙ h
-
--- a number past the end has no mark
-pub marked-below : (m : Memory) (x : ℕ) → Sized m → marked m x ≡ true → x < numbers
-unfolding marked field
-marked-below m x h e =
-    lt-of-not-le (λ (l : numbers ≤ x). let z = List·getD-eq-default (m .bytes) 0 {n = recordSize * x + 5} (omega arith) in false≢true (rw z at e))
-
-pub object-used : (m : Memory) (x : ℕ) → object m x ≡ true → inUse m x ≡ true
-unfolding object isObject inUse
-object-used m x e = ap (λ (k : ℕ). not (eqb k 0)) (eqb-true (kind (m .bytes) x) 2 e)
 
 -- ---- what a round marks
 

@@ -213,7 +213,7 @@ module _ (o : Order) (bs : List ℕ) (ok : sound o bs ≡ true) where
           object-anew o bs _ x (λ g l p q. s .rest g l q) e t (s .kind-of (driver bs x) ∙ t .driven) (simp (s .rest, s .kind-of) (t .held)) (rw (s .there) (⊎-elim (λ q. inr q) (λ q. absurd (omega arith)) hv))
 
 -- ---- the start: the core alone, at the top
-field-zero : (n x f : ℕ) → field (replicate n 0) x f ≡ 0
+pub field-zero : (n x f : ℕ) → field (replicate n 0) x f ≡ 0
 unfolding field
 field-zero n x f =
     ⊎-elim

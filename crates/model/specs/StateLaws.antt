@@ -1,0 +1,39 @@
+-- What the kind and the marks of a number tell.
+-- Assumes nothing.
+use mathlib.Core.Path.{_≡_}
+use mathlib.Core.Bool.{true, false, false≢true}
+use Prim.Native.Nat.{ℕ, _*_, _≤_, _<_}
+use native.Mathlib.Nat.{lt-of-not-le}
+use lib.ListN.{length}
+use borrow.Author.Tests.{eqb-true}
+use Rattle.records.specs.Records.{numbers, recordSize, kind, marks, isTask, isObject}
+use Rattle.records.specs.RecordLaws.{field-past}
+use Rattle.model.specs.State.{Memory, inUse, task, object, marked}
+
+module _ (m : Memory) (x : ℕ) where
+  pub task-used : task m x ≡ true → inUse m x ≡ true
+  unfolding task isTask inUse
+  task-used h = rw (eqb-true (kind (m .bytes) x) 1 h)
+
+  pub object-used : object m x ≡ true → inUse m x ≡ true
+  unfolding object isObject inUse
+  object-used h = rw (eqb-true (kind (m .bytes) x) 2 h)
+
+  pub object-task : object m x ≡ true → task m x ≡ false
+  unfolding object isObject task isTask
+  object-task h = rw (eqb-true (kind (m .bytes) x) 2 h)
+
+  -- what is marked from outside is marked
+  pub outside-mark : marks (m .bytes) x ≡ 3 → marked m x ≡ true
+  unfolding marked
+  outside-mark h = rw h
+
+  -- what is in use, or marked, is one of the numbers
+  module _ (long : length (m .bytes) ≡ recordSize * numbers) where
+    pub used-below : inUse m x ≡ true → x < numbers
+    unfolding inUse
+    used-below u = lt-of-not-le (λ (l : numbers ≤ x). false≢true (rw (field-past (m .bytes) x 0 long l) at u))
+
+    pub marked-below : marked m x ≡ true → x < numbers
+    unfolding marked
+    marked-below u = lt-of-not-le (λ (l : numbers ≤ x). false≢true (rw (field-past (m .bytes) x 5 long l) at u))
