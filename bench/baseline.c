@@ -112,17 +112,36 @@ static void mark_objects(struct state *s, unsigned driver)
 
 /* -------------------------------------------------------------- soundness */
 
-static inline int sound_task(const uint8_t *r, unsigned count)
+/*
+ * A record as one value, kind in the lowest byte. Under these masks are the
+ * bytes and bits that every task, or every object, has alike.
+ */
+#define TASK_ALIKE UINT64_C(0xFFFFFCFFFF0000FF)
+#define OBJECT_ALIKE UINT64_C(0xFFFFFE0000FF00FF)
+
+/* Compilers join the eight loads to one. */
+static inline uint64_t load(const uint8_t *r)
 {
-    return r[LEVEL] < count && r[READ_LEVEL] < count && r[DRIVER] == 0 && r[CONTAINER] == 0 &&
-           r[MARKS] <= 3 && r[MARKS] != 2 && r[6] == 0 && r[7] == 0;
+    return (uint64_t)r[0] | (uint64_t)r[1] << 8 | (uint64_t)r[2] << 16 | (uint64_t)r[3] << 24 |
+           (uint64_t)r[4] << 32 | (uint64_t)r[5] << 40 | (uint64_t)r[6] << 48 |
+           (uint64_t)r[7] << 56;
 }
 
-static inline int sound_object(const uint8_t *bytes, unsigned n, unsigned count)
+static inline unsigned part(uint64_t whole, unsigned place)
 {
-    const uint8_t *r = bytes + RECORD * n;
-    unsigned driver = r[DRIVER], container = r[CONTAINER];
-    if (r[LEVEL] >= count || r[READ_LEVEL] != 0 || r[MARKS] > 1 || r[6] != 0 || r[7] != 0)
+    return whole >> (8 * place) & 255;
+}
+
+static inline int sound_task(uint64_t whole, unsigned count)
+{
+    return (whole & TASK_ALIKE) == TASK && part(whole, LEVEL) < count &&
+           part(whole, READ_LEVEL) < count && part(whole, MARKS) != 2;
+}
+
+static inline int sound_object(const uint8_t *bytes, unsigned n, uint64_t whole, unsigned count)
+{
+    unsigned driver = part(whole, DRIVER), container = part(whole, CONTAINER);
+    if ((whole & OBJECT_ALIKE) != OBJECT || part(whole, LEVEL) >= count)
         return 0;
     if (driver >= THINGS || bytes[RECORD * driver] != TASK)
         return 0;
@@ -133,13 +152,9 @@ static inline int sound_object(const uint8_t *bytes, unsigned n, unsigned count)
 static int sound(const uint8_t *bytes, const struct tupehiwo_order *order)
 {
     for (unsigned n = 0; n < THINGS; n++) {
-        const uint8_t *r = bytes + RECORD * n;
-        uint64_t whole;
-        memcpy(&whole, r, sizeof whole);
-        if (whole == 0)
-            continue;
-        if (r[KIND] == TASK ? !sound_task(r, order->count)
-                            : r[KIND] != OBJECT || !sound_object(bytes, n, order->count))
+        uint64_t whole = load(bytes + RECORD * n);
+        if (whole != 0 && !sound_task(whole, order->count) &&
+            !sound_object(bytes, n, whole, order->count))
             return 0;
     }
     return bytes[KIND] == TASK && bytes[LEVEL] == order->top;

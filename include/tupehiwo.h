@@ -9,6 +9,14 @@
  * a struct tupehiwo_monitor and use the inline function of each call below.
  *
  * Link with libmonitor.a.
+ *
+ * The memory lent. Bytes: eight for each number, in this order: kind (0 free, 1
+ * task, 2 object), level, read level, driver, container (255 for a root object),
+ * marks (1 marked, plus 2 marked from outside), two zero bytes. Words: two for
+ * each row, number 0 in the lowest bit of the first; 128 rows of flows (row is
+ * the source), 128 of read accesses, 128 of write accesses (row is the task).
+ * Bytes, words and tally must not overlap. Calls on different memory may run at
+ * the same time.
  */
 #ifndef TUPEHIWO_H
 #define TUPEHIWO_H

@@ -1,6 +1,7 @@
 //! Random calls that look at the state: most fit it, and some fail in one place.
 
 use crate::model::{Number, Pairs, State, THINGS, at_or_below};
+use crate::request;
 use crate::rng::Rng;
 use tupehiwo::ffi::{Order, Request, code};
 
@@ -60,9 +61,8 @@ impl Author<'_> {
             arguments[place] = self.stray();
         }
         // What a call does not use is ignored, whatever it is.
-        arguments.resize_with(5, || self.rng.next() as u16);
-        let [a, b, c, d, e] = arguments.try_into().expect("a call has at most five arguments");
-        Request { code, a, b, c, d, e }
+        arguments.resize_with(5, || self.rng.bits() as u16);
+        request(code, &arguments)
     }
 
     fn code(&mut self) -> u16 {
@@ -109,7 +109,7 @@ impl Author<'_> {
                 vec![x, z, self.fed_by(z)]
             }
             code::MARK => vec![self.task()],
-            code::STEP => vec![self.to_be_marked()],
+            code::STEP => vec![self.next_to_mark()],
             _ => vec![],
         }
     }
@@ -138,8 +138,10 @@ impl Author<'_> {
 
     fn moving(&mut self) -> Vec<Number> {
         let (object, driver, from) = self.contained();
-        let writes = self.state.writes.iter();
-        let targets = writes.filter(|&&(task, _)| task == driver).map(|&(_, to)| to);
+        let apt = |&(task, to): &(Number, Number)| {
+            task == driver && to != from && to != object && self.state.object(to).is_ok()
+        };
+        let targets = self.state.writes.iter().copied().filter(apt).map(|(_, to)| to);
         let to = self.rng.pick_any(targets).unwrap_or_else(|| self.object());
         vec![self.writer(&[from, to]), driver, object, from, to]
     }
@@ -216,7 +218,7 @@ impl Author<'_> {
     }
 
     /// An unmarked thing that a marked one feeds, if there is one.
-    fn to_be_marked(&mut self) -> Number {
+    fn next_to_mark(&mut self) -> Number {
         let flows = self.state.flows.iter().copied();
         let open = |&(from, to): &(Number, Number)| {
             self.state.is_marked(from) && !self.state.is_marked(to)
@@ -251,7 +253,7 @@ impl Author<'_> {
             2 => self.rng.pick(&EDGES),
             3 => self.rng.below(THINGS) as Number,
             4 => self.rng.below(20) as Number,
-            _ => self.rng.next() as Number,
+            _ => self.rng.bits() as Number,
         }
     }
 }

@@ -141,7 +141,7 @@ fn order_of_start(rng: &mut Rng) -> Order {
 pub fn damage(rng: &mut Rng, script: &mut Vec<u8>) {
     for _ in 0..1 + script.len() / 60 {
         let known = b"0123456789   \n\n\t\r\0-+xstart";
-        let byte = if rng.once_in(10) { rng.next() as u8 } else { rng.pick(known) };
+        let byte = if rng.once_in(10) { rng.bits() as u8 } else { rng.pick(known) };
         let place = rng.below(script.len() + 1);
         match script.get_mut(place) {
             Some(old) if rng.once_in(3) => *old = byte,

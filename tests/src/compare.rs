@@ -61,7 +61,7 @@ impl Pair {
         self.model.state = state;
     }
 
-    /// Puts other bytes in the place of what the calls left, sound or not.
+    /// Puts another byte in the place of what the calls left, sound or not.
     pub fn set_byte(&mut self, place: usize, value: u8) {
         self.bytes[MARGIN + place] = value;
         let words = &self.words[MARGIN..][..WORDS];

@@ -16,3 +16,13 @@ pub mod rng;
 pub mod script;
 pub mod table;
 pub mod worlds;
+
+use tupehiwo::ffi::Request;
+
+/// A request with these arguments, at most five; the others are 0.
+pub fn request(code: u16, arguments: &[u16]) -> Request {
+    let mut all = [0; 5];
+    all[..arguments.len()].copy_from_slice(arguments);
+    let [a, b, c, d, e] = all;
+    Request { code, a, b, c, d, e }
+}

@@ -2,6 +2,7 @@
 
 use crate::compare::next_marked;
 use crate::model::{BYTES, Lengths, Model, State, WORDS};
+use crate::request;
 use tupehiwo::ffi::{Order, Request, Tally, code};
 
 /// Each word but start, with its code and how many numbers follow it.
@@ -120,9 +121,8 @@ fn read(line: &[u8]) -> Line {
     let known = WORDS_OF_CALLS.iter().find(|(known, ..)| known.as_bytes() == word);
     let numbers: Option<Vec<u16>> = parts.into_iter().map(number).collect();
     match (known, numbers) {
-        (Some(&(_, code, count)), Some(mut all)) if all.len() == count => {
-            all.resize(5, 0);
-            Line::Call(Request { code, a: all[0], b: all[1], c: all[2], d: all[3], e: all[4] })
+        (Some(&(_, code, count)), Some(all)) if all.len() == count => {
+            Line::Call(request(code, &all))
         }
         _ => Line::Bad,
     }

@@ -29,7 +29,8 @@ const CALLS: [&str; 18] = [
     "report",
 ];
 
-const VERDICTS: [&str; 14] = [
+/// The paper's words, each at the place of its number.
+pub const VERDICTS: [&str; 14] = [
     "granted", "slipped", "state", "order", "number", "taken", "driver", "place", "held", "scale",
     "path", "rule", "filled", "still",
 ];

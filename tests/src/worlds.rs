@@ -16,9 +16,7 @@ pub fn order(rng: &mut Rng) -> Order {
     let sparse = 1 + rng.below(4);
     // Levels in a random row, the top last: each may be below any later one.
     let mut row: Vec<usize> = (0..count).collect();
-    for i in (1..count).rev() {
-        row.swap(i, rng.below(i + 1));
-    }
+    rng.shuffle(&mut row);
     let top = row[count - 1];
     let mut rows = [0u16; 16];
     for i in (0..count).rev() {
@@ -40,7 +38,7 @@ pub fn other_order(rng: &mut Rng, near: Order) -> Order {
         1 => other = Order::default(),
         2 => other.count = rng.pick(&[0, near.count + 1, near.count - 1, 16, 17, 200, 65535]),
         3 => other.top = rng.pick(&[0, near.count, near.count - 1, 15, 16, 65535]),
-        4 => other.rows.fill_with(|| rng.next() as u16),
+        4 => other.rows.fill_with(|| rng.bits() as u16),
         _ => {
             let rows = if rng.once_in(4) { 16 } else { near.count.into() };
             let row = rng.below(rows);
@@ -85,14 +83,11 @@ pub fn tally(rng: &mut Rng) -> Tally {
 /// containers and marks, any words.
 pub fn sound_state(rng: &mut Rng, order: &Order) -> State {
     let mut state = State::started(order.top);
-    let (used, tasks) = (1 + rng.below(10), 1 + rng.below(9));
-    let mut numbers = [0; 2].map(|_| Vec::new());
-    for n in 1..THINGS as Number {
-        if rng.below(10) < used || n == 127 {
-            numbers[usize::from(rng.below(10) < tasks)].push(n);
-        }
-    }
-    let [objects, mut tasks] = numbers;
+    let (fill, share) = (1 + rng.below(10), 1 + rng.below(9));
+    let used: Vec<Number> =
+        (1..THINGS as Number).filter(|&n| rng.below(10) < fill || n == 127).collect();
+    let (mut tasks, objects): (Vec<Number>, Vec<Number>) =
+        used.iter().partition(|_| rng.below(10) < share);
     for &n in &tasks {
         let task = random_task(rng, order.count);
         state.put(n, Thing::Task(task));

@@ -5,6 +5,7 @@ use tupehiwo::{Answer, Monitor, Verdict};
 use tupehiwo_tests::author::Author;
 use tupehiwo_tests::model::{BYTES, Lengths, Model, State, WORDS};
 use tupehiwo_tests::rng::{Rng, seed};
+use tupehiwo_tests::table::VERDICTS;
 use tupehiwo_tests::worlds;
 
 /// The method of a request.
@@ -93,11 +94,7 @@ fn memory_can_be_handed_on() {
 
 #[test]
 fn verdicts_have_their_numbers_and_words() {
-    let words = [
-        "granted", "slipped", "state", "order", "number", "taken", "driver", "place", "held",
-        "scale", "path", "rule", "filled", "still",
-    ];
-    for (number, word) in (0..).zip(words) {
+    for (number, word) in (0..).zip(VERDICTS) {
         let verdict = Verdict::from_number(number).expect("a verdict of the table");
         assert_eq!((verdict as u8, verdict.word()), (number, word));
         assert_eq!(verdict.to_string(), word);

@@ -6,6 +6,7 @@ use tupehiwo::ffi::{Order, Request, code};
 use tupehiwo_tests::author::Author;
 use tupehiwo_tests::compare::Pair;
 use tupehiwo_tests::model::{Lengths, Model, Number, State, at_or_below};
+use tupehiwo_tests::request;
 use tupehiwo_tests::rng::{Rng, seed};
 use tupehiwo_tests::table::Table;
 use tupehiwo_tests::worlds;
@@ -34,7 +35,7 @@ impl List {
         pair.set_tally(worlds::tally(&mut rng));
         if rng.once_in(2) {
             pair.set_state(worlds::sound_state(&mut rng, &order));
-            pair.set_byte(rng.below(1024), rng.next() as u8);
+            pair.set_byte(rng.below(1024), rng.bits() as u8);
         }
         let pool = pool(&mut rng);
         let mut list = List { rng, pair, order, outside: BTreeSet::new(), pool };
@@ -98,9 +99,7 @@ impl List {
 /// The numbers that new things get: few for dense worlds, or all of them.
 fn pool(rng: &mut Rng) -> Vec<Number> {
     let mut numbers: Vec<Number> = (1..128).collect();
-    for i in (1..numbers.len()).rev() {
-        numbers.swap(i, rng.below(i + 1));
-    }
+    rng.shuffle(&mut numbers);
     numbers.truncate(rng.pick(&[4, 7, 10, 16, 30, 127]));
     numbers
 }
@@ -129,37 +128,37 @@ fn lists_from_a_start() {
     table.must_be_complete();
 }
 
+/// Calls on sound memory that no list need leave, damaged now and then, under its
+/// own order or another.
+fn calls_on_one_memory(seed: u64, pool: &[Number]) -> Table {
+    let mut rng = Rng::new(seed);
+    let mut pair = Pair::new(format!("memory of TUPEHIWO_SEED={seed}"));
+    let usual = worlds::order(&mut rng);
+    pair.set_state(worlds::sound_state(&mut rng, &usual));
+    pair.set_tally(worlds::tally(&mut rng));
+    for _ in 0..CALLS_ON_A_MEMORY {
+        if rng.once_in(40) {
+            let value = rng.pick(&[0, 1, 2, 3, 4, 127, 128, 255]);
+            pair.set_byte(rng.below(1024), value);
+        }
+        let other = rng.once_in(6);
+        let order = if other { worlds::other_order(&mut rng, usual) } else { usual };
+        let starting = rng.once_in(30);
+        let state = &pair.model.state;
+        let mut author = Author { rng: &mut rng, state, order: &order, pool };
+        let request = if starting { Request::default() } else { author.request() };
+        pair.perform_with(worlds::lengths(&mut rng), order, request);
+    }
+    pair.table
+}
+
 #[test]
 fn calls_on_any_memory() {
     let first = seed("calls_on_any_memory");
     let pool: Vec<Number> = (0..128).collect();
     let mut table = Table::default();
     for number in 0..MEMORIES {
-        let seed = first.wrapping_add(number);
-        let mut rng = Rng::new(seed);
-        let mut pair = Pair::new(format!("memory of TUPEHIWO_SEED={seed}"));
-        let usual = worlds::order(&mut rng);
-        pair.set_state(worlds::sound_state(&mut rng, &usual));
-        pair.set_tally(worlds::tally(&mut rng));
-        for _ in 0..CALLS_ON_A_MEMORY {
-            if rng.once_in(40) {
-                let value = rng.pick(&[0, 1, 2, 3, 4, 127, 128, 255]);
-                pair.set_byte(rng.below(1024), value);
-            }
-            let order = match rng.below(6) {
-                0 => worlds::other_order(&mut rng, usual),
-                _ => usual,
-            };
-            let starting = rng.once_in(30);
-            let mut author =
-                Author { rng: &mut rng, state: &pair.model.state, order: &order, pool: &pool };
-            let request = match starting {
-                true => author.request_of(code::START),
-                false => author.request(),
-            };
-            pair.perform_with(worlds::lengths(&mut rng), order, request);
-        }
-        table.add(&pair.table);
+        table.add(&calls_on_one_memory(first.wrapping_add(number), &pool));
     }
     println!("{} calls on any memory\n{table}", table.calls());
     table.must_be_complete();
@@ -185,13 +184,13 @@ fn reached_by_chains(state: &State) -> BTreeSet<Number> {
 #[test]
 fn a_spread_marks_what_chains_reach() {
     let mut rng = Rng::new(seed("a_spread_marks_what_chains_reach"));
-    let spread = Request { code: code::SPREAD, ..Request::default() };
+    let spread = request(code::SPREAD, &[]);
     for number in 0..2000 {
         let order = worlds::order(&mut rng);
         let mut state = worlds::sound_state(&mut rng, &order);
         // Few flows, so that much stays out of reach.
         let few = rng.below(200);
-        state.flows = state.flows.into_iter().filter(|_| rng.below(3000) < few).collect();
+        state.flows.retain(|_| rng.below(3000) < few);
         let reached = reached_by_chains(&state);
         let mut pair = Pair::new(format!("spread {number}"));
         pair.set_state(state);

@@ -5,16 +5,9 @@ use tupehiwo::ffi::{self, Order, Report, Request, Tally, code};
 use tupehiwo_tests::author::{Author, EDGES};
 use tupehiwo_tests::compare::{Pair, next_marked};
 use tupehiwo_tests::model::{Lengths, State};
+use tupehiwo_tests::request;
 use tupehiwo_tests::rng::{Rng, seed};
 use tupehiwo_tests::worlds::{self, Q};
-
-/// A request with these arguments.
-fn request(code: u16, arguments: &[u16]) -> Request {
-    let mut all = [0; 5];
-    all[..arguments.len()].copy_from_slice(arguments);
-    let [a, b, c, d, e] = all;
-    Request { code, a, b, c, d, e }
-}
 
 /// Calls that build a small world under Q, all granted: roots 10, 11 and 127
 /// of the core, tasks 1 and 2, object 12 of task 1 in 10, object 13 in 12.
@@ -314,7 +307,7 @@ fn words_of_any_value() {
         let words: Vec<u64> = match number {
             0 => vec![0; 768],
             1 => vec![u64::MAX; 768],
-            _ => (0..768).map(|_| rng.next()).collect(),
+            _ => (0..768).map(|_| rng.bits()).collect(),
         };
         let mut pair = Pair::new(format!("words {number}"));
         pair.set_state(State::read(&bytes, &words));

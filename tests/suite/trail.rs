@@ -4,7 +4,7 @@
 
 use std::env;
 use std::fs::{self, File};
-use std::io::{Read, Write};
+use std::io::{BufReader, Read, Write};
 use std::path::{Path, PathBuf};
 use std::process::{Child, ChildStdout, Command, Stdio};
 use std::sync::mpsc;
@@ -96,7 +96,7 @@ fn spoken_with() -> Child {
 fn listen(stdout: ChildStdout) -> mpsc::Receiver<u8> {
     let (say, heard) = mpsc::channel();
     thread::spawn(move || {
-        let bytes = stdout.bytes().map_while(Result::ok);
+        let bytes = BufReader::new(stdout).bytes().map_while(Result::ok);
         bytes.map_while(|byte| say.send(byte).ok()).count()
     });
     heard

@@ -1,15 +1,10 @@
 //! The paper's trials by name, and the longest spreads.
 
-use tupehiwo::ffi::{Order, Request, code};
+use tupehiwo::Verdict;
+use tupehiwo::ffi::{Order, code};
 use tupehiwo_tests::compare::Pair;
+use tupehiwo_tests::request;
 use tupehiwo_tests::worlds::Q;
-
-const GRANTED: u8 = 0;
-const SLIPPED: u8 = 1;
-const ORDER: u8 = 3;
-const NUMBER: u8 = 4;
-const PATH: u8 = 10;
-const RULE: u8 = 11;
 
 /// The library and the model under one order.
 struct Trial {
@@ -22,21 +17,18 @@ impl Trial {
         Trial { pair: Pair::started("trial", order), order }
     }
 
-    fn ask(&mut self, code: u16, arguments: &[u16]) -> u8 {
-        let mut all = [0; 5];
-        all[..arguments.len()].copy_from_slice(arguments);
-        let [a, b, c, d, e] = all;
-        self.pair.perform(self.order, Request { code, a, b, c, d, e }).verdict
+    fn ask(&mut self, code: u16, arguments: &[u16]) -> Verdict {
+        let answer = self.pair.perform(self.order, request(code, arguments));
+        Verdict::from_number(answer.verdict).expect("a verdict of the table")
     }
 
     fn grant(&mut self, code: u16, arguments: &[u16]) {
-        assert_eq!(self.ask(code, arguments), GRANTED, "code {code} of {arguments:?}");
+        assert_eq!(self.ask(code, arguments), Verdict::Granted, "code {code} of {arguments:?}");
     }
 
     fn spread(&mut self) -> u8 {
-        let request = Request { code: code::SPREAD, ..Request::default() };
-        let answer = self.pair.perform(self.order, request);
-        assert_eq!(answer.verdict, GRANTED);
+        let answer = self.pair.perform(self.order, request(code::SPREAD, &[]));
+        assert_eq!(answer.verdict, Verdict::Granted as u8);
         answer.rounds
     }
 
@@ -45,34 +37,34 @@ impl Trial {
     }
 }
 
-fn verdict_of_start(order: Order) -> u8 {
-    let mut pair = Pair::new("start");
-    pair.perform(order, Request::default()).verdict
+fn verdict_of_start(order: Order) -> Verdict {
+    let answer = Pair::new("start").perform(order, request(code::START, &[]));
+    Verdict::from_number(answer.verdict).expect("a verdict of the table")
 }
 
 #[test]
 fn p1_order_q_passes() {
-    assert_eq!(verdict_of_start(Q), GRANTED);
+    assert_eq!(verdict_of_start(Q), Verdict::Granted);
 }
 
 #[test]
 fn p2_one_level_passes() {
-    assert_eq!(verdict_of_start(Order::new(0, [1])), GRANTED);
+    assert_eq!(verdict_of_start(Order::new(0, [1])), Verdict::Granted);
 }
 
 #[test]
 fn p3_seventeen_levels_fail() {
-    assert_eq!(verdict_of_start(Order { count: 17, ..Q }), ORDER);
+    assert_eq!(verdict_of_start(Order { count: 17, ..Q }), Verdict::Order);
 }
 
 #[test]
 fn p4_two_levels_below_each_other_fail() {
-    assert_eq!(verdict_of_start(Order::new(1, [3, 3])), ORDER);
+    assert_eq!(verdict_of_start(Order::new(1, [3, 3])), Verdict::Order);
 }
 
 #[test]
 fn p5_levels_that_are_not_transitive_fail() {
-    assert_eq!(verdict_of_start(Order::new(3, [11, 14, 12, 8])), ORDER);
+    assert_eq!(verdict_of_start(Order::new(3, [11, 14, 12, 8])), Verdict::Order);
 }
 
 const TASK: u16 = 1;
@@ -92,14 +84,14 @@ fn reading(read_level: u16, driver_level: u16) -> Trial {
 #[test]
 fn p6_a_read_by_the_read_level_gives_no_flow() {
     let mut trial = reading(0, 3);
-    assert_eq!(trial.ask(code::READ, &[TASK, DRIVER, OBJECT]), GRANTED);
+    assert_eq!(trial.ask(code::READ, &[TASK, DRIVER, OBJECT]), Verdict::Granted);
     assert_eq!(trial.pair.flows(), 0);
 }
 
 #[test]
 fn p7_an_honest_driver_refuses() {
     let mut trial = reading(1, 3);
-    assert_eq!(trial.ask(code::READ, &[TASK, DRIVER, OBJECT]), RULE);
+    assert_eq!(trial.ask(code::READ, &[TASK, DRIVER, OBJECT]), Verdict::Rule);
     assert_eq!(trial.pair.flows(), 0);
 }
 
@@ -107,7 +99,7 @@ fn p7_an_honest_driver_refuses() {
 fn p8_a_marked_driver_lets_it_slip_with_two_flows() {
     let mut trial = reading(1, 3);
     trial.grant(code::MARK, &[DRIVER]);
-    assert_eq!(trial.ask(code::READ, &[TASK, DRIVER, OBJECT]), SLIPPED);
+    assert_eq!(trial.ask(code::READ, &[TASK, DRIVER, OBJECT]), Verdict::Slipped);
     assert_eq!(trial.pair.flows(), 2);
     assert!(trial.pair.has_flow(OBJECT, TASK));
     assert!(trial.pair.has_flow(DRIVER, TASK));
@@ -117,29 +109,29 @@ fn p8_a_marked_driver_lets_it_slip_with_two_flows() {
 fn p9_a_marked_driver_does_not_escape_the_path_test() {
     let mut trial = reading(1, 2);
     trial.grant(code::MARK, &[DRIVER]);
-    assert_eq!(trial.ask(code::READ, &[TASK, DRIVER, OBJECT]), PATH);
+    assert_eq!(trial.ask(code::READ, &[TASK, DRIVER, OBJECT]), Verdict::Path);
     assert_eq!(trial.pair.flows(), 0);
 }
 
 #[test]
 fn p10_an_invoke_between_unrelated_levels_is_refused() {
     let mut trial = reading(1, 2);
-    assert_eq!(trial.ask(code::INVOKE, &[TASK, DRIVER]), RULE);
+    assert_eq!(trial.ask(code::INVOKE, &[TASK, DRIVER]), Verdict::Rule);
 }
 
 #[test]
 fn number_127_is_fit_and_128_is_not() {
     let mut trial = Trial::new(Q);
-    assert_eq!(trial.ask(code::CREATE_ROOT, &[0, 0, 128, 0]), NUMBER);
-    assert_eq!(trial.ask(code::CREATE_ROOT, &[0, 0, 127, 0]), GRANTED);
-    assert_eq!(trial.ask(code::WRITE, &[0, 0, 127]), GRANTED);
+    assert_eq!(trial.ask(code::CREATE_ROOT, &[0, 0, 128, 0]), Verdict::Number);
+    assert_eq!(trial.ask(code::CREATE_ROOT, &[0, 0, 127, 0]), Verdict::Granted);
+    assert_eq!(trial.ask(code::WRITE, &[0, 0, 127]), Verdict::Granted);
     assert!(trial.pair.has_flow(0, 127));
 }
 
 #[test]
 fn a_task_calling_itself_feeds_itself() {
     let mut trial = Trial::new(Q);
-    assert_eq!(trial.ask(code::CALL, &[0, 0]), GRANTED);
+    assert_eq!(trial.ask(code::CALL, &[0, 0]), Verdict::Granted);
     assert_eq!(trial.pair.flows(), 1);
     assert!(trial.pair.has_flow(0, 0));
 }
@@ -159,7 +151,7 @@ fn a_number_given_out_again_keeps_no_flow() {
     assert!(!trial.pair.has_flow(0, scratch) && !trial.pair.has_flow(scratch, 0));
     // The accesses are gone too: nothing may be created in it.
     trial.grant(code::CREATE_ROOT, &[0, 0, 11, 3]);
-    assert_eq!(trial.ask(code::CREATE, &[0, 0, 12, scratch, 3]), 8);
+    assert_eq!(trial.ask(code::CREATE, &[0, 0, 12, scratch, 3]), Verdict::Held);
 }
 
 /// Tasks 2 to 127 of one level, each invoking the next; 1 is the core's image.
@@ -212,8 +204,8 @@ fn a_step_goes_one_flow_far_and_takes_the_objects_along() {
     let mut trial = chain_of_tasks();
     trial.grant(code::INVOKE, &[3, 0]);
     trial.grant(code::MARK, &[2]);
-    assert_eq!(trial.ask(code::STEP, &[0]), 13);
-    assert_eq!(trial.ask(code::STEP, &[2]), 13);
+    assert_eq!(trial.ask(code::STEP, &[0]), Verdict::Still);
+    assert_eq!(trial.ask(code::STEP, &[2]), Verdict::Still);
     trial.grant(code::STEP, &[3]);
     trial.grant(code::STEP, &[0]);
     assert_eq!(trial.marked(), [0, 1, 2, 3]);

@@ -1,0 +1,1 @@
+s/switch (q.code) {/switch (q.code \& 255) {/

@@ -1,0 +1,1 @@
+s/captured ? MARKED : 0/0/

@@ -1,0 +1,1 @@
+/^static int filled/,/^}/s/n < THINGS/n < THINGS - 1/

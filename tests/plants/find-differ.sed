@@ -1,0 +1,1 @@
+/^static uint8_t find(/,/^}/s/if (x == y)/if (x == z)/

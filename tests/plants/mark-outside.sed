@@ -1,0 +1,1 @@
+s/+ MARKS\] = OUTSIDE;/+ MARKS] = MARKED;/

@@ -1,0 +1,1 @@
+s/(higher & ~above) || (higher >> i & 1)/(higher \& ~above)/

@@ -1,0 +1,1 @@
+s/(below(s, le, ld) \&\& (captured || below(s, le, lo)))/below(s, le, ld)/

@@ -1,0 +1,1 @@
+s/__builtin_popcountll(set.words\[0\]) + //

@@ -1,0 +1,1 @@
+s/container != n \&\& //

@@ -1,0 +1,1 @@
+/^static uint8_t spread(/,/^}/s/if (empty(&caught))/if (empty(\&caught) || rounds == 1)/

@@ -1,0 +1,1 @@
+s/if (\*count != UINT32_MAX)/if (1)/
