@@ -1,21 +1,21 @@
 -- Mark and step in the order of the code: the verdict first, then the thing's mark, then those of its objects.
 -- Assumes nothing.
 use mathlib.Core.Path.{_≡_, refl, sym, ap, _∙_}
-use mathlib.Core.Bool.{Bool, true, false, cond, _&&_, _||_, false≢true}
+use mathlib.Core.Bool.{Bool, true, false, not, cond, _&&_, _||_, false≢true}
 use mathlib.Core.List.{List}
 use Prim.Native.Nat.{ℕ, _≤_, _<_}
 use native.Mathlib.Nat.{lt-of-not-le}
 use native.Mathlib.Omega.{arith}
 use lib.Dec.{eqb}
 use lib.ListN.{length, length-set}
-use Rattle.bits.specs.AllLaws.{not-so, and-false, or-false}
+use Rattle.bits.specs.AllLaws.{and-false, or-false}
+use Rattle.levels.specs.declared.Order.{Order}
 use Rattle.records.specs.Records.{numbers, field, setField, isTask, isObject}
 use Rattle.records.specs.RecordLaws.{field-past}
-use Rattle.model.specs.State.{Memory, memory, inUse, task, object}
-use Rattle.model.specs.Verdicts.{granted, isDone}
+use Rattle.model.specs.State.{Memory, memory, inUse, task, object, marked}
+use Rattle.model.specs.Verdicts.{granted, row-number, row-still, isDone}
 use Rattle.model.specs.Effects.{effects, markWhere, objectOf, effect, mark-outside, mark-thing}
-use Rattle.model.specs.Events.{Event, outcome, verdictOf}
-use Rattle.model.specs.TableLaws.{refusals, done-tests, tests-verdict}
+use Rattle.model.specs.Events.{Event, outcome, verdictOf, firstFailing, unless, step, fed}
 use Rattle.model.specs.SpreadLaws.{Sized}
 use Rattle.marking.specs.MarksLaws.{Marks, marks-same, marks-where, marks-then, marks-store, field-set, kept-objectOf}
 
@@ -61,7 +61,7 @@ pub task-below : (bs ws : List ℕ) (x : ℕ) → length bs ≡ 1024 → task (m
 unfolding task isTask
 task-below bs ws x h e = lt-of-not-le (λ (l : numbers ≤ x). false≢true (sym (rw (field-past bs x 0 h l)) ∙ e))
 
--- ---- an event with no honest test, from its verdict
+-- ---- an outcome, from its verdict
 
 module _ (m : Memory) (e : Event) {v : ℕ} (is : v ≡ verdictOf e) where
   pub made : {n : Memory} → v ≡ granted → n ≡ effects (e .effects) m → record { verdict = v; rounds = 0; memory = n } ≡ outcome m e
@@ -71,9 +71,19 @@ module _ (m : Memory) (e : Event) {v : ℕ} (is : v ≡ verdictOf e) where
       let g : n ≡ cond (isDone (verdictOf e)) (effects (e .effects) m) m = f ∙ sym (rw d) in
       λ i. record { verdict = is i; rounds = 0; memory = g i }
 
-  pub refused : refusals (e .tests) ≡ true → e .honest ≡ true → (v ≡ granted → ⊥) → record { verdict = v; rounds = 0; memory = m } ≡ outcome m e
+  pub refused : isDone v ≡ false → record { verdict = v; rounds = 0; memory = m } ≡ outcome m e
   unfolding outcome
-  refused r h n =
-      let d : isDone (verdictOf e) ≡ false = not-so _ (λ t. n (is ∙ tests-verdict e (done-tests e r t) ∙ rw h)) in
+  refused n =
+      let d : isDone (verdictOf e) ≡ false = rw is at n in
       let g : m ≡ cond (isDone (verdictOf e)) (effects (e .effects) m) m = sym (rw d) in
       λ i. record { verdict = is i; rounds = 0; memory = g i }
+
+-- a step is granted or refused
+pub step-refused : (o : Order) (m : Memory) (x : ℕ) {v : ℕ} → v ≡ verdictOf (step o m x) → (v ≡ granted → ⊥) → isDone v ≡ false
+unfolding verdictOf firstFailing unless step
+step-refused o m x {v} is n = rw is (go (inUse m x) (not (marked m x) && fed o m x) (λ z. n (is ∙ z)))
+  where
+    go : (a b : Bool) → (unless a row-number (unless b row-still granted) ≡ granted → ⊥) → isDone (unless a row-number (unless b row-still granted)) ≡ false
+    go true true h = absurd (h refl)
+    go true false h = refl
+    go false b h = refl

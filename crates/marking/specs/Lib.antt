@@ -4,3 +4,4 @@ pub mod FirstLaws
 pub mod MarksLaws
 pub mod WalkLaws
 pub mod EffectLaws
+pub mod ReportLaws

@@ -6,7 +6,8 @@ use levels::Order;
 use model::Report;
 ghost use mathlib.Core.Path.{_≡_};
 ghost use mathlib.Core.Bool.{true};
-ghost use Prim.Native.Nat.{_-_, _<_};
+ghost use mathlib.Core.List.{List};
+ghost use Prim.Native.Nat.{ℕ, _-_, _<_};
 ghost use lib.ListN.{length};
 ghost use Rattle.bits.specs.Bit.{bit};
 ghost use Rattle.levels.specs.declared.Order.{Order};
@@ -15,10 +16,58 @@ ghost use Rattle.records.specs.Records.{sound};
 ghost use Rattle.model.specs.State.{memory};
 ghost use Rattle.model.specs.Events as events;
 ghost use Rattle.model.specs.Events.{left, outcome, verdictOf};
-ghost use Rattle.model.specs.Monitor.{firstFrom, nextMarked};
+ghost use Rattle.model.specs.Monitor as monitor;
+ghost use Rattle.model.specs.Monitor.{noReport, firstFrom, nextMarked};
+ghost use Rattle.marking.specs.ReportLaws.{reportOf};
+
+// Where the marks stand in a record.
+const MARKS: usize = 5;
 
 // How many numbers there are.
 const NUMBERS: u16 = 128;
+
+// The words of flows and accesses.
+const WORDS: usize = 768;
+
+// A report of nothing, with why.
+fn no_report(verdict: u8) -> Report
+    ensures { λ r. ⌜ r ≡ noReport verdict ⌝ }
+{
+    Report {
+        words: [0, 0],
+        ones: 0,
+        verdict: verdict,
+    }
+}
+
+// A bit for each marked number.
+fn marked_report(bytes: &[u8]) -> Report
+    requires { ⌜ length (now bytes) ≡ 1024 ⌝ }
+    ensures { λ r. ⌜ ((ws : List ℕ) → r ≡ reportOf (memory (now (bytes .entry)) ws)) ⌝ }
+{
+    let marked = sets::with_field(bytes, MARKS);
+    Report {
+        words: [marked.low, marked.high],
+        ones: bits::count_of_ones(marked.low) + bits::count_of_ones(marked.high),
+        verdict: model::GRANTED,
+    }
+}
+
+// What is marked; all zero where the lengths, the bytes or the order are refused.
+pub fn report(bytes: &[u8], words: &[u64], order: Order) -> Report
+    ensures { λ r. ⌜ r ≡ monitor.report order (memory (now (bytes .entry)) (now (words .entry))) ⌝ }
+{
+    if words.len() != WORDS {
+        return no_report(model::STATE);
+    }
+    if !records::sound(bytes, order) {
+        return no_report(model::STATE);
+    }
+    if !levels::order_passes(order) {
+        return no_report(model::ORDER);
+    }
+    marked_report(bytes)
+}
 
 // The place of the lowest one of a word at or above i, and 64 where there is none.
 fn lowest_from(w: u64, i: u16) -> u16

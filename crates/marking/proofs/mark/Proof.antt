@@ -1,6 +1,5 @@
 use mathlib.Core.Path.{_≡_, refl, sym, _∙_}
 use mathlib.Core.Bool.{true, false}
-use native.Mathlib.Omega.{arith}
 use borrow.Author.Needs.{needs}
 use borrow.Author.Tests.{not-true, not-false}
 use Rattle.model.specs.State.{memory, task}
@@ -16,7 +15,7 @@ returns c =
     let a = c .before .before .before .before .before .args in
     let m = memory (a .bytes .now) (a .words .now) in
     let t : task m (a .task) ≡ false = sym (c .before .is-task .ensures) ∙ not-true _ (c .if1 .taken) in
-    refused m (mark (a .order) m (a .task)) (sym (rw t)) refl refl (λ z. omega arith)
+    refused m (mark (a .order) m (a .task)) (sym (rw t)) refl
 
 mark-outside-requires : tie.Need-mark-outside-requires
 unfolding task

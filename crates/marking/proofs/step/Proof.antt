@@ -1,13 +1,12 @@
 use mathlib.Core.Path.{_≡_, refl, sym, _∙_}
 use mathlib.Core.Bool.{true, false, and-eq-true-iff}
-use native.Mathlib.Omega.{arith}
 use borrow.Author.Needs.{needs}
 use borrow.Author.Tests.{eqb-true, not-true, not-false}
 use Rattle.model.specs.State.{memory, inUse, marked}
 use Rattle.model.specs.Effects.{effects}
 use Rattle.model.specs.Events.{step}
 use Rattle.model.specs.TableLaws.{done-tests}
-use Rattle.marking.specs.EffectLaws.{made, refused, used-below}
+use Rattle.marking.specs.EffectLaws.{made, refused, step-refused, used-below}
 use Rattle.marking.proofs.step.Statement.{statement}
 use Rattle.marking.proofs.step.Tie as tie
 
@@ -29,11 +28,11 @@ returns c =
     made m (step (a .order) m (a .x)) (d .before .step-verdict .ensures (a .order)) (d .if1 .taken) (c .before .before .mark-thing .ensures (a .words .now))
 
 returns-2 : tie.Need-returns-2
-unfolding step
 returns-2 c =
     let a = c .before .before .before .before .before .args in
     let m = memory (a .bytes .now) (a .words .now) in
-    refused m (step (a .order) m (a .x)) (c .before .step-verdict .ensures (a .order)) refl refl (c .if1 .left)
+    let v = c .before .step-verdict .ensures (a .order) in
+    refused m (step (a .order) m (a .x)) v (step-refused (a .order) m (a .x) v (c .if1 .left))
 
 pub step-spec : {M : Type 1} → statement M
 step-spec = tie.close (tie.spec (λ c κs. search needs) mark-thing-requires (λ c. search needs) returns (λ c. search needs) returns-2)
