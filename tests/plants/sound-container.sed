@@ -1,1 +1,1 @@
-s/container != n \&\& //
+s/container != n \&\& /(container != n || 1) \&\& /

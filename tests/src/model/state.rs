@@ -14,11 +14,12 @@ const ROOT: u8 = 255;
 pub type Number = u16;
 pub type Pairs = BTreeSet<(Number, Number)>;
 
+/// By the number in the record.
 #[derive(Clone, Copy, Debug, PartialEq, Eq)]
 pub enum Mark {
-    Unmarked,
-    Marked,
-    Outside,
+    Unmarked = 0,
+    Marked = 1,
+    Outside = 3,
 }
 
 #[derive(Clone, Copy, Debug, PartialEq, Eq)]
@@ -81,13 +82,18 @@ impl Thing {
         }
     }
 
-    fn read(record: [u8; RECORD]) -> Thing {
+    fn read(record: &[u8]) -> Thing {
+        let record: [u8; RECORD] = record.try_into().expect("a record has eight bytes");
         match record {
             [0, 0, 0, 0, 0, 0, 0, 0] => Thing::Free,
             [1, level, read_level, 0, 0, marks @ (0 | 1 | 3), 0, 0] => Thing::Task(Task {
                 level: level.into(),
                 read_level: read_level.into(),
-                mark: [Mark::Unmarked, Mark::Marked, Mark::Outside][usize::from(marks.min(2))],
+                mark: match marks {
+                    0 => Mark::Unmarked,
+                    1 => Mark::Marked,
+                    _ => Mark::Outside,
+                },
             }),
             [2, level, 0, driver, container, marks @ (0 | 1), 0, 0] => Thing::Object(Object {
                 level: level.into(),
@@ -103,12 +109,8 @@ impl Thing {
         match *self {
             Thing::Free => [0; RECORD],
             Thing::Task(task) => {
-                let marks = match task.mark {
-                    Mark::Unmarked => 0,
-                    Mark::Marked => 1,
-                    Mark::Outside => 3,
-                };
-                [1, byte(task.level), byte(task.read_level), 0, 0, marks, 0, 0]
+                let (level, read_level) = (byte(task.level), byte(task.read_level));
+                [1, level, read_level, 0, 0, task.mark as u8, 0, 0]
             }
             Thing::Object(object) => {
                 let container = object.container.map_or(ROOT, byte);
@@ -139,7 +141,7 @@ impl State {
         let mut kinds = words.chunks(WORDS_OF_A_KIND).map(read_pairs);
         let mut pairs = || kinds.next().expect("three kinds of rows");
         State {
-            things: bytes.as_chunks().0.iter().copied().map(Thing::read).collect(),
+            things: bytes.chunks_exact(RECORD).map(Thing::read).collect(),
             flows: pairs(),
             reads: pairs(),
             writes: pairs(),
@@ -148,8 +150,8 @@ impl State {
 
     /// The bytes and words that say this.
     pub fn write(&self, bytes: &mut [u8], words: &mut [u64]) {
-        for (record, thing) in bytes.as_chunks_mut().0.iter_mut().zip(&self.things) {
-            *record = thing.record();
+        for (record, thing) in bytes.chunks_exact_mut(RECORD).zip(&self.things) {
+            record.copy_from_slice(&thing.record());
         }
         words.fill(0);
         let kinds = words.chunks_mut(WORDS_OF_A_KIND);
