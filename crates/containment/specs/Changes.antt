@@ -24,7 +24,7 @@ use Rattle.containment.specs.Follows.{Same, Follows, same-task, same-use
 
 -- ---- lengths and numbers
 
-pub fits-same : (m n : Memory) → length (n .bytes) ≡ length (m .bytes) → length (n .words) ≡ length (m .words) → lengthsFit m ≡ true → lengthsFit n ≡ true
+fits-same : (m n : Memory) → length (n .bytes) ≡ length (m .bytes) → length (n .words) ≡ length (m .words) → lengthsFit m ≡ true → lengthsFit n ≡ true
 unfolding lengthsFit
 fits-same m n b w h = rw (b, w) h
 

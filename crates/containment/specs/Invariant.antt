@@ -19,6 +19,7 @@ use Rattle.model.specs.RiskLaws.{past-object, past-driver}
 use Rattle.containment.specs.Lists.{Standing}
 use Rattle.containment.specs.Claims.{Covered, Contained}
 
+-- where a list stands, by its parts
 abbrev pub standing : Order → Memory → List ℕ → Standing
 standing o m ts = record { order = o; memory = m; outside = ts }
 
@@ -31,6 +32,7 @@ pub record Bounded (s : Standing) (x : ℕ) : Type 0 where
   -- an object's driver is a task, at or above it
   pub driver-task : object (s .memory) x ≡ true → task (s .memory) (driverOf (s .memory) x) ≡ true
   pub driver-above : object (s .memory) x ≡ true → atOrBelow (s .order) (levelOf (s .memory) x) (levelOf (s .memory) (driverOf (s .memory) x)) ≡ true
+  -- an object of a marked driver is marked, and what is marked is covered
   pub driven-marked : object (s .memory) x ≡ true → marked (s .memory) (driverOf (s .memory) x) ≡ true → marked (s .memory) x ≡ true
   pub mark-covered : marked (s .memory) x ≡ true → Covered s (levelOf (s .memory) x)
 
@@ -52,6 +54,7 @@ MayFlow s x y = (inUse (s .memory) x ≡ true) × (inUse (s .memory) y ≡ true)
 pub record Limits (s : Standing) : Type 0 where
   pub fits : lengthsFit (s .memory) ≡ true
   pub bounded : (x : ℕ) → x < numbers → Bounded s x
+  -- a task that a granted mark named stays marked from outside
   pub named : (t : ℕ) → List·Memᴰ t (s .outside) → (task (s .memory) t ≡ true) × (marks (s .memory .bytes) t ≡ 3)
   pub flows : (x y : ℕ) → x < numbers → y < numbers → hasFlow (s .memory) x y ≡ true → MayFlow s x y
   pub reads : (z x : ℕ) → z < numbers → x < numbers → hasRead (s .memory) z x ≡ true → MayRead s z x

@@ -117,9 +117,11 @@ module _ (s : Standing) (i : Invariant s) (o : Order) where
   same-order : (r : Role) {D : Type 0} → NoStart r → (r ≡ starting) ⊎ (D → o ≡ s .order) → D → o ≡ s .order
   same-order r n a d = ⊎-elim (λ e. absurd (subst NoStart e n)) (λ f. f d) a
 
+  -- what such a call leaves, under that order
   later : (m : Memory) (ts : List ℕ) → o ≡ s .order → sound o (m .bytes) ≡ true → Limits (standing (s .order) m ts) → Invariant (standing (s .order) m ts)
   later m ts q l k = record { passes = i .passes; is-sound = rw q at l; limits = k }
 
+  -- an event whose tests allow its effects
   event-keeps : (e : Order → Event) → refusals (e o .tests) ≡ true
       → (other ≡ starting) ⊎ (isDone (fitted o (s .memory) (outcome (s .memory) (e o)) .verdict) ≡ true → o ≡ s .order)
       → (Holds (e (s .order) .tests) → AllAllowed s (e (s .order) .effects))

@@ -9,5 +9,5 @@ pub mod Preserve
 pub mod FlowEvents
 pub mod RecordEvents
 pub mod ItemsKeep
-pub mod Proved
 pub mod SpreadProof
+pub mod Proved

@@ -1,4 +1,4 @@
--- The claims about lists, proved.
+-- The claims of demand 3, proved: those about lists here, that a done call leaves sound bytes and that a spread is exact in files of their own.
 -- Assumes nothing.
 use mathlib.Core.Path.{_≡_, sym, ap, _∙_}
 use mathlib.Core.Bool.{Bool, true, false, cond, and-eq-true-iff}
@@ -26,6 +26,8 @@ use Rattle.containment.specs.Lists.{Item, Standing, run, begun}
 use Rattle.containment.specs.Claims.{Reached, Containment, Determined, RepeatedMark, NeverUnsound}
 use Rattle.containment.specs.Invariant.{standing, Limits, Invariant, contained}
 use Rattle.containment.specs.ItemsKeep.{start-keeps, run-keeps}
+pub use Rattle.containment.specs.Soundness.{leaves-sound}
+pub use Rattle.containment.specs.SpreadProof.{spread-exact}
 
 -- what a list begun by a granted start leaves
 reached : (o : Order) (m : Memory) (is : List Item) → Reached o m is → Invariant (run is (begun o m))
@@ -54,7 +56,7 @@ module _ (s : Standing) (i : Invariant s) where
   unfolding start refusedUnless
   start-out = rw (i .limits .fits, i .passes)
 
--- a table's verdict is none of its own rows' numbers, or granted or slipped
+-- an event's verdict is granted, slipped or the number of one of its rows, and those come after rows 2 and 3
 not-state : (ts : List Test) (last : ℕ) → refusals ts ≡ true → (last ≡ row-state → ⊥) → firstFailing ts last ≡ row-state → ⊥
 unfolding firstFailing unless
 not-state [] last r h e = h e
