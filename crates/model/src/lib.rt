@@ -1,77 +1,91 @@
 // The types of the monitor's face: calls, answers, the tally and the report.
 
-// A call with its numbers. Levels and counts are as wide as the numbers, so that what a caller names reaches the rules uncut.
+// A call with its numbers, by document 01's letters. Levels are as wide as the numbers, so that what a caller names reaches the rules uncut.
 pub enum Call {
     Start,
+    // The task e reads the object o through its driver d.
     Read {
-        task: u16,
-        driver: u16,
-        object: u16,
+        e: u16,
+        d: u16,
+        o: u16,
     },
+    // The task e writes the object o through its driver d.
     Write {
-        task: u16,
-        driver: u16,
-        object: u16,
+        e: u16,
+        d: u16,
+        o: u16,
     },
+    // The task c runs a new task n from the image i, at level l and read level r.
     Execute {
-        creator: u16,
-        image: u16,
-        new: u16,
-        level: u16,
-        read_level: u16,
+        c: u16,
+        i: u16,
+        n: u16,
+        l: u16,
+        r: u16,
     },
+    // The task c makes a new object n of the driver d in the container k, at level l.
     Create {
-        creator: u16,
-        driver: u16,
-        new: u16,
-        container: u16,
-        level: u16,
+        c: u16,
+        d: u16,
+        n: u16,
+        k: u16,
+        l: u16,
     },
+    // The same, in no container.
     CreateRoot {
-        creator: u16,
-        driver: u16,
-        new: u16,
-        level: u16,
+        c: u16,
+        d: u16,
+        n: u16,
+        l: u16,
     },
+    // The task e moves the object o, driven by d, from the container f to the container t.
     Move {
-        task: u16,
-        driver: u16,
-        object: u16,
-        from: u16,
-        to: u16,
+        e: u16,
+        d: u16,
+        o: u16,
+        f: u16,
+        t: u16,
     },
+    // The task e deletes the object o, driven by d, from its container k.
     Delete {
-        task: u16,
-        driver: u16,
-        object: u16,
-        container: u16,
+        e: u16,
+        d: u16,
+        o: u16,
+        k: u16,
     },
+    // The task a calls the task b.
     CallTask {
-        caller: u16,
-        callee: u16,
+        a: u16,
+        b: u16,
     },
+    // The task a invokes the task b.
     Invoke {
-        invoker: u16,
-        invokee: u16,
+        a: u16,
+        b: u16,
     },
+    // What the task z read of the object x goes on to y.
     Pass {
         z: u16,
         x: u16,
         y: u16,
     },
+    // The task y reads of the object z what the task x wrote there.
     Post {
         x: u16,
         z: u16,
         y: u16,
     },
+    // What the task x gave the task z goes on to y.
     Find {
         x: u16,
         z: u16,
         y: u16,
     },
+    // The task e is marked from outside.
     Mark {
-        task: u16,
+        e: u16,
     },
+    // One thing is marked that a marked thing feeds.
     Step {
         x: u16,
     },
