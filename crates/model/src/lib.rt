@@ -1,94 +1,37 @@
 // The types of the monitor's face: calls, answers, the tally and the report.
 
-// A call with its numbers, by document 01's letters. Levels are as wide as the numbers, so that what a caller names reaches the rules uncut.
+// A call with its numbers, told by document 01's letters. Levels are as wide as thing numbers, so that what a caller names reaches
+// the rules uncut.
 pub enum Call {
     Start,
-    // The task e reads the object o through its driver d.
-    Read {
-        e: u16,
-        d: u16,
-        o: u16,
-    },
-    // The task e writes the object o through its driver d.
-    Write {
-        e: u16,
-        d: u16,
-        o: u16,
-    },
-    // The task c runs a new task n from the image i, at level l and read level r.
-    Execute {
-        c: u16,
-        i: u16,
-        n: u16,
-        l: u16,
-        r: u16,
-    },
-    // The task c makes a new object n of the driver d in the container k, at level l.
-    Create {
-        c: u16,
-        d: u16,
-        n: u16,
-        k: u16,
-        l: u16,
-    },
-    // The same, in no container.
-    CreateRoot {
-        c: u16,
-        d: u16,
-        n: u16,
-        l: u16,
-    },
-    // The task e moves the object o, driven by d, from the container f to the container t.
-    Move {
-        e: u16,
-        d: u16,
-        o: u16,
-        f: u16,
-        t: u16,
-    },
-    // The task e deletes the object o, driven by d, from its container k.
-    Delete {
-        e: u16,
-        d: u16,
-        o: u16,
-        k: u16,
-    },
-    // The task a calls the task b.
-    CallTask {
-        a: u16,
-        b: u16,
-    },
-    // The task a invokes the task b.
-    Invoke {
-        a: u16,
-        b: u16,
-    },
-    // What the task z read of the object x goes on to y.
-    Pass {
-        z: u16,
-        x: u16,
-        y: u16,
-    },
-    // The task y reads of the object z what the task x wrote there.
-    Post {
-        x: u16,
-        z: u16,
-        y: u16,
-    },
-    // What the task x gave the task z goes on to y.
-    Find {
-        x: u16,
-        z: u16,
-        y: u16,
-    },
-    // The task e is marked from outside.
-    Mark {
-        e: u16,
-    },
-    // One thing is marked that a marked thing feeds.
-    Step {
-        x: u16,
-    },
+    // e, d, o: the task e reads the object o through its driver d.
+    Read(u16, u16, u16),
+    // e, d, o: the task e writes the object o through its driver d.
+    Write(u16, u16, u16),
+    // c, i, n, l, r: the task c runs a new task n from the image i, at level l and read level r.
+    Execute(u16, u16, u16, u16, u16),
+    // c, d, n, k, l: the task c makes a new object n of the driver d in the container k, at level l.
+    Create(u16, u16, u16, u16, u16),
+    // c, d, n, l: the same, in no container.
+    CreateRoot(u16, u16, u16, u16),
+    // e, d, o, f, t: the task e moves the object o, driven by d, from the container f to the container t.
+    Move(u16, u16, u16, u16, u16),
+    // e, d, o, k: the task e deletes the object o, driven by d, from its container k.
+    Delete(u16, u16, u16, u16),
+    // a, b: the task a calls the task b.
+    CallTask(u16, u16),
+    // a, b: the task a invokes the task b.
+    Invoke(u16, u16),
+    // z, x, y: what the task z read of the object x goes on to y.
+    Pass(u16, u16, u16),
+    // x, z, y: the task y reads in the object z what came from the task x.
+    Post(u16, u16, u16),
+    // x, z, y: what came to the task z from the task x goes on to y.
+    Find(u16, u16, u16),
+    // e: the task e is marked from outside.
+    Mark(u16),
+    // x: the thing x is marked, if a marked thing feeds it.
+    Step(u16),
     Spread,
 }
 
