@@ -1,6 +1,14 @@
 // Reading a line of a script.
+mod calls;
+mod pieces;
+
 use levels::Order;
 use model::Call;
+use pieces::Found;
+ghost use mathlib.Core.Path.{_≡_};
+ghost use lib.ListN.{drop};
+ghost use Rattle.script.specs.Script.{startOf, readLine};
+ghost use Rattle.script.specs.Pieces.{afterwards};
 
 // What a line is, but for a start's order, which stands beside it.
 pub enum Line {
@@ -17,4 +25,52 @@ pub enum Line {
 pub struct Parsed {
     pub line: Line,
     pub order: Order,
+}
+
+const MOST_LEVELS: u16 = 16;
+
+// A start, whose word ends at `at`.
+fn start_after(line: &[u8], at: usize) -> Parsed
+    ensures { λ r. ⌜ r ≡ startOf (afterwards (drop at (now (line .entry)))) ⌝ }
+{
+    let Found::Number { value: count, end } = pieces::number_after(line, at) else {
+        return calls::bad();
+    };
+    if count > MOST_LEVELS {
+        return calls::without_order(Line::TooMany);
+    }
+    let Found::Number {
+        value: top,
+        end: next,
+    } = pieces::number_after(line, end)
+    else {
+        return calls::bad();
+    };
+    let rows = pieces::numbers_after(line, next);
+    if rows.ok & (rows.count == count as usize) {
+        let values = rows.values;
+        Parsed {
+            line: Line::Starts,
+            order: Order {
+                rows: values,
+                count,
+                top,
+            },
+        }
+    } else {
+        calls::bad()
+    }
+}
+
+// What a line means, which comes without its line feed.
+pub fn read_line(line: &[u8]) -> Parsed
+    ensures { λ r. ⌜ r ≡ readLine (now (line .entry)) ⌝ }
+{
+    let end = pieces::end_of(line, 0);
+    let word = &line[..end];
+    if pieces::same(word, b"start") {
+        start_after(line, end)
+    } else {
+        calls::call_of(word, pieces::numbers_after(line, end))
+    }
 }
