@@ -52,9 +52,9 @@ fn with_one(word: &[u8], a: u16) -> Parsed
     ensures { λ r. ⌜ r ≡ callOf (now (word .entry)) (a ∷ []) ⌝ }
 {
     if same(word, b"mark") {
-        asks(Call::Mark { task: a })
+        asks(Call::Mark(a))
     } else if same(word, b"step") {
-        asks(Call::Step { x: a })
+        asks(Call::Step(a))
     } else {
         bad()
     }
@@ -64,15 +64,9 @@ fn with_two(word: &[u8], a: u16, b: u16) -> Parsed
     ensures { λ r. ⌜ r ≡ callOf (now (word .entry)) (a ∷ b ∷ []) ⌝ }
 {
     if same(word, b"call") {
-        asks(Call::CallTask {
-            caller: a,
-            callee: b,
-        })
+        asks(Call::CallTask(a, b))
     } else if same(word, b"invoke") {
-        asks(Call::Invoke {
-            invoker: a,
-            invokee: b,
-        })
+        asks(Call::Invoke(a, b))
     } else {
         bad()
     }
@@ -82,23 +76,15 @@ fn with_three(word: &[u8], a: u16, b: u16, c: u16) -> Parsed
     ensures { λ r. ⌜ r ≡ callOf (now (word .entry)) (a ∷ b ∷ c ∷ []) ⌝ }
 {
     if same(word, b"read") {
-        asks(Call::Read {
-            task: a,
-            driver: b,
-            object: c,
-        })
+        asks(Call::Read(a, b, c))
     } else if same(word, b"write") {
-        asks(Call::Write {
-            task: a,
-            driver: b,
-            object: c,
-        })
+        asks(Call::Write(a, b, c))
     } else if same(word, b"pass") {
-        asks(Call::Pass { z: a, x: b, y: c })
+        asks(Call::Pass(a, b, c))
     } else if same(word, b"post") {
-        asks(Call::Post { x: a, z: b, y: c })
+        asks(Call::Post(a, b, c))
     } else if same(word, b"find") {
-        asks(Call::Find { x: a, z: b, y: c })
+        asks(Call::Find(a, b, c))
     } else {
         bad()
     }
@@ -108,19 +94,9 @@ fn with_four(word: &[u8], a: u16, b: u16, c: u16, d: u16) -> Parsed
     ensures { λ r. ⌜ r ≡ callOf (now (word .entry)) (a ∷ b ∷ c ∷ d ∷ []) ⌝ }
 {
     if same(word, b"root") {
-        asks(Call::CreateRoot {
-            creator: a,
-            driver: b,
-            new: c,
-            level: d,
-        })
+        asks(Call::CreateRoot(a, b, c, d))
     } else if same(word, b"delete") {
-        asks(Call::Delete {
-            task: a,
-            driver: b,
-            object: c,
-            container: d,
-        })
+        asks(Call::Delete(a, b, c, d))
     } else {
         bad()
     }
@@ -130,29 +106,11 @@ fn with_five(word: &[u8], a: u16, b: u16, c: u16, d: u16, e: u16) -> Parsed
     ensures { λ r. ⌜ r ≡ callOf (now (word .entry)) (a ∷ b ∷ c ∷ d ∷ e ∷ []) ⌝ }
 {
     if same(word, b"run") {
-        asks(Call::Execute {
-            creator: a,
-            image: b,
-            new: c,
-            level: d,
-            read_level: e,
-        })
+        asks(Call::Execute(a, b, c, d, e))
     } else if same(word, b"create") {
-        asks(Call::Create {
-            creator: a,
-            driver: b,
-            new: c,
-            container: d,
-            level: e,
-        })
+        asks(Call::Create(a, b, c, d, e))
     } else if same(word, b"move") {
-        asks(Call::Move {
-            task: a,
-            driver: b,
-            object: c,
-            from: d,
-            to: e,
-        })
+        asks(Call::Move(a, b, c, d, e))
     } else {
         bad()
     }
