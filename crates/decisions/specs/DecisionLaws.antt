@@ -14,6 +14,7 @@ use Rattle.model.specs.Verdicts.{granted, slipped, row-path, row-rule, isDone}
 use Rattle.model.specs.State.{Memory, memory, task, object}
 use Rattle.model.specs.Effects.{Effect, effects}
 use Rattle.model.specs.Events.{Event, Outcome, left, unless, verdictOf, outcome}
+use Rattle.model.specs.TableLaws.{refusals, Holds, done-tests}
 use Rattle.decisions.specs.declared.Decision.{Decision}
 use Rattle.decisions.specs.Decisions.{judged, apart}
 
@@ -81,3 +82,9 @@ module _ {m : Memory} {e : Event} {j : Decision} {does : Decision → List Effec
       let v : d .verdict ≡ verdictOf e = rw is (t .verdict) in
       let n : isDone (verdictOf e) ≡ false = rw v at (lt-leb _ _ h) in
       rw n (λ i. record { verdict = v i; rounds = 0; memory = m })
+
+  -- a call that is done passed all its tests; at a concrete event the last argument is `refl`
+  pub told-tests : d .verdict ≤ slipped → refusals (e .tests) ≡ true → Holds (e .tests)
+  told-tests h r =
+      let v : d .verdict ≡ verdictOf e = rw is (t .verdict) in
+      done-tests e r (rw v at (le-leb _ _ h))

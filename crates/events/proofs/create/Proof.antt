@@ -1,0 +1,20 @@
+use Rattle.decisions.specs.DecisionLaws.{done, refused}
+use Rattle.events.specs.EventLaws.{create-told, create-fits}
+use borrow.Author.Needs.{needs}
+use Rattle.events.proofs.create.Statement.{statement}
+use Rattle.events.proofs.create.Tie as tie
+
+create-requires-2 : tie.Need-create-requires-2
+create-requires-2 c κs = create-fits _ _ (c .before .before .before .before .before .before .before .before .before .pre .0) (c .before .before .before .before .before .before .before .before .before .pre .2) _ _ _ _ _ (c .before .before .before .before .create .ensures) (search)
+
+returns : tie.Need-returns
+returns c = done (create-told _ _ _ _ _ _ _) (c .before .before .before .before .before .before .before .before .before .create .ensures) (search) (c .before .before .before .before .create2 .ensures)
+
+returns-2 : tie.Need-returns-2
+returns-2 c = refused (create-told _ _ _ _ _ _ _) (c .before .before .create .ensures) (search)
+
+pub create-spec : {M : Type 1} → statement M
+create-spec =
+    tie.close
+    (tie.spec (λ c κs. search needs) create-requires-2 (λ c. search needs) (λ c. search needs) returns (λ c. search needs)
+    (λ c. search needs) returns-2)

@@ -1,0 +1,20 @@
+use Rattle.decisions.specs.DecisionLaws.{done, refused}
+use Rattle.events.specs.EventLaws.{delete-told, delete-fits}
+use borrow.Author.Needs.{needs}
+use Rattle.events.proofs.delete.Statement.{statement}
+use Rattle.events.proofs.delete.Tie as tie
+
+delete-requires-2 : tie.Need-delete-requires-2
+delete-requires-2 c κs = (c .before .before .before .before .before .before .before .before .before .pre .1, delete-fits _ _ (c .before .before .before .before .before .before .before .before .before .pre .0) _ _ _ _ (c .before .before .before .before .delete .ensures) (search))
+
+returns : tie.Need-returns
+returns c = done (delete-told _ _ _ _ _ _) (c .before .before .before .before .before .before .before .before .before .delete .ensures) (search) (c .before .before .before .before .delete2 .ensures)
+
+returns-2 : tie.Need-returns-2
+returns-2 c = refused (delete-told _ _ _ _ _ _) (c .before .before .delete .ensures) (search)
+
+pub delete-spec : {M : Type 1} → statement M
+delete-spec =
+    tie.close
+    (tie.spec (λ c κs. search needs) delete-requires-2 (λ c. search needs) (λ c. search needs) returns (λ c. search needs)
+    (λ c. search needs) returns-2)

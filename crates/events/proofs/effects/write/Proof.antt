@@ -1,0 +1,11 @@
+use Rattle.model.specs.Effects.{effect, effects}
+use borrow.Author.Needs.{needs}
+use Rattle.events.proofs.effects.write.Statement.{statement}
+use Rattle.events.proofs.effects.write.Tie as tie
+
+returns : tie.Need-returns
+unfolding effect effects
+returns c = λ bs. cc (c .before .before .record-both .ensures bs)
+
+pub write-spec : {M : Type 1} → statement M
+write-spec = tie.close (tie.spec (λ c κs. search needs) (λ c κs. search needs) (λ c. search needs) returns)

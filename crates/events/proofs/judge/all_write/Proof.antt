@@ -1,0 +1,11 @@
+use borrow.Author.Needs.{needs}
+use Rattle.events.specs.Judged.{allWrite}
+use Rattle.events.proofs.judge.all_write.Statement.{statement}
+use Rattle.events.proofs.judge.all_write.Tie as tie
+
+returns : tie.Need-returns
+unfolding allWrite
+returns c = cc
+
+pub all-write-spec : {M : Type 1} → statement M
+all-write-spec = tie.close (tie.spec (λ c κs. search needs) (λ c κs. search needs) (λ c κs. search needs) (λ c κs. search needs) returns)

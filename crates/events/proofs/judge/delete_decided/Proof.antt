@@ -1,0 +1,12 @@
+use Rattle.model.specs.State.{marked}
+use Rattle.events.specs.Judged.{deleteDecided}
+use borrow.Author.Needs.{needs}
+use Rattle.events.proofs.judge.delete_decided.Statement.{statement}
+use Rattle.events.proofs.judge.delete_decided.Tie as tie
+
+returns : tie.Need-returns
+unfolding marked deleteDecided
+returns c = λ ws. cc
+
+pub delete-decided-spec : {M : Type 1} → statement M
+delete-decided-spec = tie.close (tie.spec (λ c κs. search needs) (λ c κs. search needs) (λ c κs. search needs) returns)

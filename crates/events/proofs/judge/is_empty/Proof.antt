@@ -1,0 +1,38 @@
+-- Before turn y none of the first y numbers is an object in x.
+-- Assumes nothing.
+use mathlib.Core.Path.{_≡_, sym, ap, _∙_}
+use mathlib.Core.Bool.{Bool, false, not, _&&_, _||_}
+use Prim.Native.Nat.{ℕ, _≤_, _-_}
+use native.Mathlib.Omega.{arith}
+use lib.Dec.{eqb}
+use Rattle.bits.specs.All.{anyB}
+use Rattle.bits.specs.AllLaws.{any-none, any-more, any-i}
+use Rattle.records.specs.Records.{field, isObject}
+use Rattle.events.specs.Judged.{isEmpty}
+use Rattle.events.proofs.judge.is_empty.Statement.{statement}
+use Rattle.events.proofs.judge.is_empty.Tie as tie
+
+abbrev Inv-loop : tie.InvT-loop
+Inv-loop bytes x y₀ y = (y ≤ 128) × (anyB y (λ z. isObject bytes z && eqb (field bytes z 4) x) ≡ false)
+
+abbrev μ-loop : tie.MeasureT-loop
+μ-loop bytes x y₀ y = 128 - y
+
+loop-holds : tie.Need-loop-holds Inv-loop μ-loop
+loop-holds c = (omega arith, any-none _)
+
+returns : tie.Need-returns Inv-loop μ-loop
+unfolding isEmpty
+returns c = sym (ap not (any-i _ _ (c .before .before .before .before .loop .y) (omega arith) (cc)))
+
+loop-again : tie.Need-loop-again Inv-loop μ-loop
+loop-again c = (omega arith, any-more _ _ ∙ rw (c .before .before .before .before .loop .inv .1) (cc))
+
+returns-2 : tie.Need-returns-2 Inv-loop μ-loop
+unfolding isEmpty
+returns-2 c = let e : c .before .loop .y ≡ 128 = omega arith in sym (ap not (rw e at (c .before .loop .inv .1)))
+
+pub is-empty-spec : {M : Type 1} → statement M
+is-empty-spec =
+    tie.close
+    (tie.spec Inv-loop μ-loop loop-holds (λ c κs. omega arith) (λ c κs. omega arith) returns (λ c. omega arith) (λ c. omega arith) loop-again returns-2)

@@ -1,0 +1,11 @@
+use borrow.Author.Needs.{needs}
+use Rattle.events.specs.Judged.{mayMove}
+use Rattle.events.proofs.judge.may_move.Statement.{statement}
+use Rattle.events.proofs.judge.may_move.Tie as tie
+
+returns : tie.Need-returns
+unfolding mayMove
+returns c = cc
+
+pub may-move-spec : {M : Type 1} → statement M
+may-move-spec = tie.close (tie.spec (λ c κs. search needs) returns)

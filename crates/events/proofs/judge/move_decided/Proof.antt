@@ -1,0 +1,12 @@
+use Rattle.model.specs.State.{marked}
+use Rattle.events.specs.Judged.{moveDecided}
+use borrow.Author.Needs.{needs}
+use Rattle.events.proofs.judge.move_decided.Statement.{statement}
+use Rattle.events.proofs.judge.move_decided.Tie as tie
+
+returns : tie.Need-returns
+unfolding marked moveDecided
+returns c = λ ws. cc
+
+pub move-decided-spec : {M : Type 1} → statement M
+move-decided-spec = tie.close (tie.spec (λ c κs. search needs) (λ c κs. search needs) (λ c κs. search needs) (λ c κs. search needs) returns)

@@ -1,0 +1,15 @@
+use borrow.Author.Needs.{needs}
+use Rattle.model.specs.State.{marked}
+use Rattle.events.specs.Judged.{readDecided}
+use Rattle.events.proofs.judge.read_decided.Statement.{statement}
+use Rattle.events.proofs.judge.read_decided.Tie as tie
+
+returns : tie.Need-returns
+unfolding marked readDecided
+returns c = λ ws. cc
+
+pub read-decided-spec : {M : Type 1} → statement M
+read-decided-spec =
+    tie.close
+    (tie.spec (λ c κs. search needs) (λ c κs. search needs) (λ c κs. search needs) (λ c κs. search needs) (λ c κs. search needs)
+    (λ c κs. search needs) (λ c κs. search needs) returns)

@@ -1,0 +1,14 @@
+use borrow.Author.Needs.{needs}
+use Rattle.model.specs.State.{marked}
+use Rattle.events.specs.Judged.{writeDecided}
+use Rattle.events.proofs.judge.write_decided.Statement.{statement}
+use Rattle.events.proofs.judge.write_decided.Tie as tie
+
+returns : tie.Need-returns
+unfolding marked writeDecided
+returns c = λ ws. cc
+
+pub write-decided-spec : {M : Type 1} → statement M
+write-decided-spec =
+    tie.close
+    (tie.spec (λ c κs. search needs) (λ c κs. search needs) (λ c κs. search needs) returns)

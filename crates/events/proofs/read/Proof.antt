@@ -1,0 +1,18 @@
+use mathlib.Core.List.{[]}
+use Rattle.decisions.specs.DecisionLaws.{done, refused}
+use Rattle.events.specs.EventLaws.{read-told, read-fits}
+use borrow.Author.Needs.{needs}
+use Rattle.events.proofs.read.Statement.{statement}
+use Rattle.events.proofs.read.Tie as tie
+
+read-requires-2 : tie.Need-read-requires-2
+read-requires-2 c κs = read-fits _ _ (c .before .before .before .before .before .before .pre .0) _ _ _ (c .before .before .before .read .ensures []) (search)
+
+returns : tie.Need-returns
+returns c = done (read-told _ _ _ _ _) (c .before .before .before .before .before .before .read .ensures _) (search) (c .before .before .read2 .ensures _)
+
+returns-2 : tie.Need-returns-2
+returns-2 c = refused (read-told _ _ _ _ _) (c .before .before .read .ensures _) (search)
+
+pub read-spec : {M : Type 1} → statement M
+read-spec = tie.close (tie.spec (λ c κs. search needs) read-requires-2 (λ c. search needs) returns returns-2)

@@ -1,0 +1,291 @@
+// The verdict of each event, and which of its flows are recorded.
+ghost use mathlib.Core.Path.{_≡_};
+ghost use mathlib.Core.List.{List};
+ghost use Prim.Native.Nat.{ℕ};
+ghost use lib.ListN.{length};
+ghost use Rattle.model.specs.State.{memory};
+ghost use Rattle.events.specs.Judged.{writes, bothWrite, allWrite, mayMove, moveNamed, areNew, isEmpty, driven, given, createRows, moveRows, deleteRows, scaled, unlessFilled, readDecided, writeDecided, moveDecided, deleteDecided, readJudged, writeJudged, executeJudged, createJudged, rootJudged, moveJudged, deleteJudged};
+use decisions::Decision;
+use decisions::apart;
+use decisions::facts::WRITES;
+use decisions::facts::are_named;
+use decisions::facts::below;
+use decisions::facts::has_access;
+use decisions::facts::in_use;
+use decisions::facts::level_below;
+use decisions::facts::marked;
+use decisions::facts::names;
+use decisions::unless;
+use levels::Order;
+use model::FILLED;
+use model::GRANTED;
+use model::HELD;
+use model::NUMBER;
+use model::PLACE;
+use model::RULE;
+use model::SCALE;
+use model::TAKEN;
+use records::CONTAINER;
+use records::LEVEL;
+use records::READ_LEVEL;
+use records::is_object;
+use records::is_task;
+
+const NUMBERS: u16 = 128;
+
+// The rows of the numbers and of the driver of x, above the rest of the table.
+fn driven(bytes: &[u8], named: bool, d: u16, x: u16, rest: u8) -> u8
+    ensures { λ r. ⌜ r ≡ driven (now (bytes .entry)) named d x rest ⌝ }
+{
+    let row = unless(names(bytes, x, records::DRIVER, d), model::DRIVER, rest);
+    unless(named, NUMBER, row)
+}
+
+// The rows of the numbers and of a new number.
+fn given(bytes: &[u8], named: bool, n: u16, rest: u8) -> u8
+    ensures { λ r. ⌜ r ≡ given (now (bytes .entry)) named n rest ⌝ }
+{
+    unless(named, NUMBER, unless(!in_use(bytes, n), TAKEN, rest))
+}
+
+fn read_decided(bytes: &[u8], order: Order, e: u16, d: u16, x: u16) -> Decision
+    ensures { λ r. ⌜ ((ws : List ℕ) → r ≡ readDecided order (memory (now (bytes .entry)) ws) e d x) ⌝ }
+{
+    decisions::read(
+        below(bytes, order, e, LEVEL, d),
+        below(bytes, order, e, READ_LEVEL, d),
+        below(bytes, order, e, LEVEL, x),
+        below(bytes, order, e, READ_LEVEL, x),
+        marked(bytes, d),
+        marked(bytes, e),
+    )
+}
+
+pub fn read(bytes: &[u8], order: Order, e: u16, d: u16, x: u16) -> Decision
+    ensures { λ r. ⌜ ((ws : List ℕ) → r ≡ readJudged order (memory (now (bytes .entry)) ws) e d x) ⌝ }
+{
+    let mut judged = read_decided(bytes, order, e, d, x);
+    let rule = apart(below(bytes, order, x, LEVEL, d), judged.verdict);
+    judged.verdict = driven(bytes, are_named(bytes, e, d, x), d, x, rule);
+    judged
+}
+
+fn write_decided(bytes: &[u8], order: Order, e: u16, d: u16, x: u16) -> Decision
+    ensures { λ r. ⌜ ((ws : List ℕ) → r ≡ writeDecided order (memory (now (bytes .entry)) ws) e d x) ⌝ }
+{
+    decisions::write(below(bytes, order, x, LEVEL, e), marked(bytes, d))
+}
+
+pub fn write(bytes: &[u8], order: Order, e: u16, d: u16, x: u16) -> Decision
+    ensures { λ r. ⌜ ((ws : List ℕ) → r ≡ writeJudged order (memory (now (bytes .entry)) ws) e d x) ⌝ }
+{
+    let mut judged = write_decided(bytes, order, e, d, x);
+    let rule = apart(below(bytes, order, x, LEVEL, d), judged.verdict);
+    judged.verdict = driven(bytes, are_named(bytes, e, d, x), d, x, rule);
+    judged
+}
+
+pub fn execute(
+    bytes: &[u8],
+    order: Order,
+    c: u16,
+    i: u16,
+    n: u16,
+    l: u16,
+    read_level: u16,
+) -> Decision
+    ensures { λ r. ⌜ ((ws : List ℕ) → r ≡ executeJudged order (memory (now (bytes .entry)) ws) c i n l «read_level») ⌝ }
+{
+    let count = order.count;
+    let named = is_task(bytes, c) & is_object(bytes, i) & (n < NUMBERS);
+    let scaled = (l < count) & (read_level < count);
+    let rule = level_below(bytes, order, l, i) & levels::at_or_below(order, read_level, l);
+    let row = unless(scaled, SCALE, unless(rule, RULE, GRANTED));
+    Decision {
+        verdict: given(bytes, named, n, row),
+        first: marked(bytes, i),
+        second: false,
+    }
+}
+
+// Two tasks, and a number that may be made.
+fn are_new(bytes: &[u8], c: u16, d: u16, n: u16) -> bool
+    ensures { λ r. ⌜ r ≡ areNew (now (bytes .entry)) c d n ⌝ }
+{
+    is_task(bytes, c) & is_task(bytes, d) & (n < NUMBERS)
+}
+
+// The task e has write access to x.
+fn writes(words: &[u64], e: u16, x: u16) -> bool
+    ensures { λ r. ⌜ r ≡ writes (now (words .entry)) e x ⌝ }
+{
+    has_access(words, WRITES, e, x)
+}
+
+// Both tasks have write access to k.
+fn both_write(words: &[u64], e: u16, d: u16, k: u16) -> bool
+    ensures { λ r. ⌜ r ≡ bothWrite (now (words .entry)) e d k ⌝ }
+{
+    writes(words, e, k) & writes(words, d, k)
+}
+
+// The rows of a level that is given: whether it is in the order, and the rule.
+fn scaled(order: Order, l: u16, rule: bool) -> u8
+    ensures { λ r. ⌜ r ≡ scaled order l rule ⌝ }
+{
+    unless(l < order.count, SCALE, unless(rule, RULE, GRANTED))
+}
+
+fn create_rows(bytes: &[u8], words: &[u64], c: u16, d: u16, n: u16, k: u16, rest: u8) -> u8
+    ensures { λ r. ⌜ r ≡ createRows (now (bytes .entry)) (now (words .entry)) c d n k rest ⌝ }
+{
+    let named = are_new(bytes, c, d, n) & is_object(bytes, k);
+    given(
+        bytes,
+        named,
+        n,
+        unless(both_write(words, c, d, k), HELD, rest),
+    )
+}
+
+pub fn create(
+    bytes: &[u8],
+    words: &[u64],
+    order: Order,
+    c: u16,
+    d: u16,
+    n: u16,
+    k: u16,
+    l: u16,
+) -> Decision
+    requires { ⌜ length (now bytes) ≡ 1024 ⌝ }
+    ensures { λ r. ⌜ r ≡ createJudged order (memory (now (bytes .entry)) (now (words .entry))) c d n k l ⌝ }
+{
+    let rule = level_below(bytes, order, l, c)
+        & level_below(bytes, order, l, k)
+        & level_below(bytes, order, l, d);
+    let flows = marked(bytes, d);
+    Decision {
+        verdict: create_rows(bytes, words, c, d, n, k, scaled(order, l, rule)),
+        first: flows,
+        second: flows,
+    }
+}
+
+pub fn create_root(bytes: &[u8], order: Order, c: u16, d: u16, n: u16, l: u16) -> Decision
+    ensures { λ r. ⌜ ((ws : List ℕ) → r ≡ rootJudged order (memory (now (bytes .entry)) ws) c d n l) ⌝ }
+{
+    let rule = level_below(bytes, order, l, c) & level_below(bytes, order, l, d);
+    let flows = marked(bytes, d);
+    Decision {
+        verdict: given(bytes, are_new(bytes, c, d, n), n, scaled(order, l, rule)),
+        first: flows,
+        second: flows,
+    }
+}
+
+fn move_decided(bytes: &[u8], order: Order, e: u16, d: u16, x: u16, t: u16) -> Decision
+    ensures { λ r. ⌜ ((ws : List ℕ) → r ≡ moveDecided order (memory (now (bytes .entry)) ws) e d x t) ⌝ }
+{
+    decisions::move_object(
+        below(bytes, order, x, LEVEL, e),
+        below(bytes, order, x, LEVEL, t),
+        marked(bytes, d),
+    )
+}
+
+// The object is in the first container, and all three differ.
+fn may_move(bytes: &[u8], x: u16, f: u16, t: u16) -> bool
+    ensures { λ r. ⌜ r ≡ mayMove (now (bytes .entry)) x f t ⌝ }
+{
+    (x != f) & (x != t) & (f != t) & names(bytes, x, CONTAINER, f)
+}
+
+// Both tasks have write access to both containers.
+fn all_write(words: &[u64], e: u16, d: u16, f: u16, t: u16) -> bool
+    ensures { λ r. ⌜ r ≡ allWrite (now (words .entry)) e d f t ⌝ }
+{
+    writes(words, e, f) & writes(words, e, t) & writes(words, d, f) & writes(words, d, t)
+}
+
+fn move_named(bytes: &[u8], e: u16, d: u16, x: u16, f: u16, t: u16) -> bool
+    ensures { λ r. ⌜ r ≡ moveNamed (now (bytes .entry)) e d x f t ⌝ }
+{
+    are_named(bytes, e, d, x) & is_object(bytes, f) & is_object(bytes, t)
+}
+
+fn move_rows(bytes: &[u8], words: &[u64], e: u16, d: u16, x: u16, f: u16, t: u16, rest: u8) -> u8
+    ensures { λ r. ⌜ r ≡ moveRows (now (bytes .entry)) (now (words .entry)) e d x f t rest ⌝ }
+{
+    let held = unless(all_write(words, e, d, f, t), HELD, rest);
+    let row = unless(may_move(bytes, x, f, t), PLACE, held);
+    driven(bytes, move_named(bytes, e, d, x, f, t), d, x, row)
+}
+
+pub fn move_object(
+    bytes: &[u8],
+    words: &[u64],
+    order: Order,
+    e: u16,
+    d: u16,
+    x: u16,
+    f: u16,
+    t: u16,
+) -> Decision
+    requires { ⌜ length (now bytes) ≡ 1024 ⌝ }
+    ensures { λ r. ⌜ r ≡ moveJudged order (memory (now (bytes .entry)) (now (words .entry))) e d x f t ⌝ }
+{
+    let mut judged = move_decided(bytes, order, e, d, x, t);
+    let rule = apart(below(bytes, order, x, LEVEL, d), judged.verdict);
+    judged.verdict = move_rows(bytes, words, e, d, x, f, t, rule);
+    judged
+}
+
+fn delete_decided(bytes: &[u8], order: Order, e: u16, d: u16, x: u16) -> Decision
+    ensures { λ r. ⌜ ((ws : List ℕ) → r ≡ deleteDecided order (memory (now (bytes .entry)) ws) e d x) ⌝ }
+{
+    decisions::delete(below(bytes, order, x, LEVEL, e), marked(bytes, d))
+}
+
+fn is_empty(bytes: &[u8], x: u16) -> bool
+    ensures { λ r. ⌜ r ≡ isEmpty (now (bytes .entry)) x ⌝ }
+{
+    let mut y: u16 = 0;
+    while y < NUMBERS {
+        if is_object(bytes, y) & names(bytes, y, CONTAINER, x) {
+            return false;
+        }
+        y += 1;
+    }
+    true
+}
+
+// The row below the rule. The records are gone through only where nothing else refuses.
+fn unless_filled(bytes: &[u8], x: u16, verdict: u8) -> u8
+    ensures { λ r. ⌜ r ≡ unlessFilled (isEmpty (now (bytes .entry)) x) verdict ⌝ }
+{
+    if verdict == GRANTED {
+        unless(is_empty(bytes, x), FILLED, verdict)
+    } else {
+        verdict
+    }
+}
+
+fn delete_rows(bytes: &[u8], words: &[u64], e: u16, d: u16, x: u16, k: u16, rest: u8) -> u8
+    ensures { λ r. ⌜ r ≡ deleteRows (now (bytes .entry)) (now (words .entry)) e d x k rest ⌝ }
+{
+    let named = are_named(bytes, e, d, x) & is_object(bytes, k);
+    let held = unless(both_write(words, e, d, k), HELD, rest);
+    let row = unless(names(bytes, x, CONTAINER, k), PLACE, held);
+    unless_filled(bytes, x, driven(bytes, named, d, x, row))
+}
+
+pub fn delete(bytes: &[u8], words: &[u64], order: Order, e: u16, d: u16, x: u16, k: u16) -> Decision
+    requires { ⌜ length (now bytes) ≡ 1024 ⌝ }
+    ensures { λ r. ⌜ r ≡ deleteJudged order (memory (now (bytes .entry)) (now (words .entry))) e d x k ⌝ }
+{
+    let mut judged = delete_decided(bytes, order, e, d, x);
+    let rule = apart(below(bytes, order, x, LEVEL, d), judged.verdict);
+    judged.verdict = delete_rows(bytes, words, e, d, x, k, rule);
+    judged
+}
