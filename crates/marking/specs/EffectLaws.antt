@@ -1,42 +1,39 @@
 -- Mark and step in the order of the code: the verdict first, then the thing's mark, then those of its objects.
 -- Assumes nothing.
 use mathlib.Core.Path.{_≡_, refl, sym, ap, _∙_}
-use mathlib.Core.Bool.{Bool, true, false, not, cond, _&&_, _||_, false≢true}
+use mathlib.Core.Logic.{inr}
+use mathlib.Core.Bool.{Bool, true, false, not, cond, _&&_, _||_}
 use mathlib.Core.List.{List}
-use Prim.Native.Nat.{ℕ, _≤_, _<_}
-use native.Mathlib.Nat.{lt-of-not-le}
+use Prim.Native.Nat.{ℕ, _<_}
 use native.Mathlib.Omega.{arith}
 use lib.Dec.{eqb}
-use lib.ListN.{length, length-set}
-use Rattle.bits.specs.AllLaws.{and-false, or-false}
+use lib.ListN.{length}
+use Rattle.bits.specs.AllLaws.{or-false}
 use Rattle.levels.specs.declared.Order.{Order}
-use Rattle.records.specs.Records.{numbers, field, setField, isTask, isObject}
-use Rattle.records.specs.RecordLaws.{field-past}
+use Rattle.records.specs.Records.{numbers, field, setField, isObject}
+use Rattle.records.specs.RecordLaws.{field-else, length-field}
 use Rattle.model.specs.State.{Memory, memory, inUse, task, object, marked}
 use Rattle.model.specs.Verdicts.{granted, row-number, row-still, isDone}
 use Rattle.model.specs.Effects.{effects, markWhere, objectOf, effect, mark-outside, mark-thing}
 use Rattle.model.specs.Events.{Event, outcome, verdictOf, firstFailing, unless, step, fed}
 use Rattle.model.specs.SpreadLaws.{Sized}
-use Rattle.marking.specs.MarksLaws.{Marks, marks-same, marks-where, marks-then, marks-store, field-set, kept-objectOf}
+use Rattle.marking.specs.MarksLaws.{Marks, marks-same, marks-where, marks-then, marks-store}
 
 -- equal tests mark the same
 where-ext : (p q : ℕ → Bool) (m : Memory) → Sized m → ((x : ℕ) → x < numbers → p x ≡ q x) → markWhere p m ≡ markWhere q m
 where-ext p q m h e = marks-same h (marks-where p m h) (marks-where q m h) (λ x l d. e x l)
 
-module _ (bs ws : List ℕ) (x : ℕ) (h : length bs ≡ 1024) (l : x < numbers) where
+module _ (bs ws : List ℕ) (x : ℕ) (h : length bs ≡ 1024) where
   -- a store to the marks changes no kind and no driver
   object-else : (v d y : ℕ) → objectOf (memory (setField bs x 5 v) ws) d y ≡ objectOf (memory bs ws) d y
   unfolding objectOf object isObject
-  object-else v d y = rw (other 0 (omega arith) refl, other 3 (omega arith) refl)
-    where
-      other : (f : ℕ) → f < 8 → eqb f 5 ≡ false → field (setField bs x 5 v) y f ≡ field bs y f
-      other f k e = field-set bs x 5 v y f (omega arith) (omega arith) k ∙ rw (e, and-false (eqb y x))
+  object-else v d y = rw (field-else bs x 5 v y 0 (omega arith) (omega arith) (inr (omega arith)), field-else bs x 5 v y 3 (omega arith) (omega arith) (inr (omega arith)))
 
   pub outside-is : markWhere (objectOf (memory (setField bs x 5 3) ws) x) (memory (setField bs x 5 3) ws) ≡ effect (mark-outside x) (memory bs ws)
-  unfolding effect setField
-  outside-is = where-ext _ _ _ (length-set bs _ _ ∙ h) (λ y b. object-else 3 x y)
+  unfolding effect
+  outside-is = where-ext _ _ _ (length-field bs x 5 3 ∙ h) (λ y b. object-else 3 x y)
 
-  module _ (z : field bs x 5 ≡ 0) where
+  module _ (l : x < numbers) (z : field bs x 5 ≡ 0) where
     stored : Marks (memory bs ws) (λ y. eqb y x) (memory (setField bs x 5 1) ws)
     unfolding setField field
     stored = marks-store bs ws x h l z
@@ -50,16 +47,6 @@ module _ (bs ws : List ℕ) (x : ℕ) (h : length bs ≡ 1024) (l : x < numbers)
     thing-drives e =
         marks-same h (marks-then stored (marks-where _ _ (stored .more .length-kept ∙ h))) (marks-where _ (memory bs ws) h)
         (λ y b d. sym (rw e (ap (λ (q : Bool). eqb y x || q) (sym (object-else 1 x y)))))
-
--- ---- a number that is in use
-
-pub used-below : (bs ws : List ℕ) (x : ℕ) → length bs ≡ 1024 → inUse (memory bs ws) x ≡ true → x < numbers
-unfolding inUse
-used-below bs ws x h e = lt-of-not-le (λ (l : numbers ≤ x). false≢true (sym (rw (field-past bs x 0 h l)) ∙ e))
-
-pub task-below : (bs ws : List ℕ) (x : ℕ) → length bs ≡ 1024 → task (memory bs ws) x ≡ true → x < numbers
-unfolding task isTask
-task-below bs ws x h e = lt-of-not-le (λ (l : numbers ≤ x). false≢true (sym (rw (field-past bs x 0 h l)) ∙ e))
 
 -- ---- an outcome, from its verdict
 

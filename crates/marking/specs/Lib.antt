@@ -5,3 +5,8 @@ pub mod MarksLaws
 pub mod WalkLaws
 pub mod EffectLaws
 pub mod ReportLaws
+pub mod RoundLaws
+pub mod Rounds
+pub mod OwnedLaws
+pub mod RoundSetLaws
+pub mod SpreadingLaws

@@ -7,13 +7,13 @@ use mathlib.Core.List.{List}
 use Prim.Native.Nat.{ℕ, _+_, _*_, _/_, _%_, _≤_, _<_}
 use native.Mathlib.Omega.{arith}
 use lib.Dec.{eqb, leb}
-use lib.ListN.{length, getD, set, length-set}
+use lib.ListN.{length, getD, set}
 use lib.Seq.{ext-getD}
 use borrow.Author.Tests.{eqb-true, eqb-false, eq-eqb, ne-eqb, not-false, leb-true, le-leb, lt-leb}
 use Rattle.bits.specs.All.{one}
 use Rattle.bits.specs.AllLaws.{either, both-ways, and-l, and-r, and-i, and-true, and-false, or-false}
-use Rattle.rows.specs.RowLaws.{getD-set}
 use Rattle.records.specs.Records.{numbers, field, setField}
+use Rattle.records.specs.RecordLaws.{field-same, field-else, length-field}
 use Rattle.model.specs.State.{Memory, memory, marked}
 use Rattle.model.specs.Effects.{markWhere, objectOf}
 use Rattle.model.specs.MarkLaws.{MoreMarks, kept-marked, kept-object, kept-driver, more-then, more-none, where-more, where-length, where-new, where-not}
@@ -66,6 +66,9 @@ marks-same {m} {n} {v} h g f e =
 
 -- ---- how one comes by it
 
+pub marks-ext : {m n : Memory} {q r : ℕ → Bool} → Marks m q n → ((x : ℕ) → x < numbers → marked m x ≡ false → q x ≡ r x) → Marks m r n
+marks-ext g e = record { more = g .more; new = λ x l d. g .new x l d ∙ ap one (e x l d) }
+
 pub marks-none : (m : Memory) → Marks m (λ x. false) m
 marks-none m = record { more = more-none m; new = λ x l e. no-mark m x e }
 
@@ -84,22 +87,6 @@ marks-where p m h = record { more = where-more p m; new = λ x l e. go x l e (ei
     go x l e (inr b) = where-not p m x b ∙ no-mark m x e ∙ sym (rw b)
 
 -- a store of a mark
-same-byte : (x f y f′ : ℕ) → f < 8 → f′ < 8 → eqb (8 * y + f′) (8 * x + f) ≡ (eqb y x && eqb f′ f)
-same-byte x f y f′ h h′ = both-ways _ _ there back
-  where
-    there : eqb (8 * y + f′) (8 * x + f) ≡ true → (eqb y x && eqb f′ f) ≡ true
-    there e = let d : 8 * y + f′ ≡ 8 * x + f = eqb-true _ _ e in and-i (eq-eqb y x (omega arith)) (eq-eqb f′ f (omega arith))
-
-    back : (eqb y x && eqb f′ f) ≡ true → eqb (8 * y + f′) (8 * x + f) ≡ true
-    back e =
-        let d : y ≡ x = eqb-true _ _ (and-l (eqb y x) (eqb f′ f) e) in
-        let g : f′ ≡ f = eqb-true _ _ (and-r (eqb y x) (eqb f′ f) e) in
-        eq-eqb (8 * y + f′) (8 * x + f) (omega arith)
-
-pub field-set : (bs : List ℕ) (x f v y f′ : ℕ) → 8 * x + f < length bs → f < 8 → f′ < 8 → field (setField bs x f v) y f′ ≡ cond (eqb y x && eqb f′ f) v (field bs y f′)
-unfolding field setField
-field-set bs x f v y f′ l h h′ = getD-set bs (8 * x + f) (8 * y + f′) v l ∙ ap (λ (b : Bool). cond b v (getD bs (8 * y + f′) 0)) (same-byte x f y f′ h h′)
-
 module _ (bs ws : List ℕ) (x : ℕ) where
   pub marks-store : length bs ≡ 1024 → x < numbers → getD bs (8 * x + 5) 0 ≡ 0 → Marks (memory bs ws) (λ y. eqb y x) (memory (set bs (8 * x + 5) 1) ws)
   unfolding setField field marked
@@ -108,19 +95,15 @@ module _ (bs ws : List ℕ) (x : ℕ) where
         more =
             record {
               words-kept = refl;
-              length-kept = length-set bs _ _;
-              bytes-kept = λ y f b n. after y f b ∙ rw (ne-eqb f 5 n, and-false (eqb y x));
-              marks-kept = λ y d. after y 5 (omega arith) ∙ rw (ne-eqb y x (λ q. true≢false (sym d ∙ ap (marked (memory bs ws)) q ∙ rw e)));
+              length-kept = length-field bs x 5 1;
+              bytes-kept = λ y f b n. field-else bs x 5 1 y f (omega arith) b (inr n);
+              marks-kept = λ y d. else y (λ q. true≢false (sym d ∙ ap (marked (memory bs ws)) q ∙ rw e));
             };
-        new = λ y b d. after y 5 (omega arith) ∙ go (eqb y x) (no-mark (memory bs ws) y d);
+        new = λ y b d. ⊎-elim (λ q. rw (eqb-true y x q, eq-eqb x x refl) (field-same bs x 5 1 (omega arith))) (λ q. rw q (else y (eqb-false y x q) ∙ no-mark (memory bs ws) y d)) (either (eqb y x));
       }
     where
-      after : (y f : ℕ) → f < 8 → field (set bs (8 * x + 5) 1) y f ≡ cond (eqb y x && eqb f 5) 1 (field bs y f)
-      after y f b = field-set bs x 5 1 y f (omega arith) (omega arith) b
-
-      go : (b : Bool) {k : ℕ} → k ≡ 0 → cond (b && true) 1 k ≡ one b
-      go true q = refl
-      go false q = q
+      else : (y : ℕ) → (y ≡ x → ⊥) → field (setField bs x 5 1) y 5 ≡ field bs y 5
+      else y n = field-else bs x 5 1 y 5 (omega arith) (omega arith) (inl n)
 
   -- a store that is left out, since the mark is there
   pub marks-there : (getD bs (8 * x + 5) 0 ≡ 0 → ⊥) → Marks (memory bs ws) (λ y. eqb y x) (memory bs ws)

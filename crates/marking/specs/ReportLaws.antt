@@ -1,20 +1,21 @@
 -- The report of a memory that is not refused.
 -- Assumes nothing.
 use mathlib.Core.Path.{_≡_, sym, ap, _∙_}
-use mathlib.Core.Bool.{Bool, true, false, _&&_, and-eq-true-iff}
+use mathlib.Core.Bool.{Bool, true, false, _&&_}
 use mathlib.Core.List.{List, [], _∷_}
 use Prim.Native.Nat.{ℕ, _+_, _*_}
 use native.Mathlib.Omega.{arith}
 use lib.Count.{ones}
 use lib.Dec.{eqb}
 use lib.ListN.{length}
-use borrow.Author.Tests.{eqb-true, eq-eqb, ne-eqb}
+use borrow.Author.Tests.{eq-eqb, ne-eqb}
 use Rattle.bits.specs.Bit.{wordOf}
 use Rattle.bits.specs.BitLaws.{bit-word, word-is, word-lt}
 use Rattle.bits.specs.AllLaws.{and-i, and-false}
 use Rattle.levels.specs.declared.Order.{Order}
 use Rattle.levels.specs.Order.{orderPasses}
 use Rattle.records.specs.Records.{sound}
+use Rattle.records.specs.RecordLaws.{long}
 use Rattle.model.specs.declared.Report.{Report}
 use Rattle.model.specs.Verdicts.{granted, row-state, row-order}
 use Rattle.model.specs.State.{Memory, lengthsFit, marked}
@@ -40,11 +41,6 @@ high-word m e = ap (λ (s : Set). s .high) e ∙ word-ext _ _ (λ i. let z : 64 
 -- ---- which report it is
 
 module _ (o : Order) (m : Memory) where
-  -- sound bytes are of the right length
-  pub sound-length : sound o (m .bytes) ≡ true → length (m .bytes) ≡ 1024
-  unfolding sound
-  sound-length e = let t = simp and-eq-true-iff at e in eqb-true _ _ (t .0 .0)
-
   pub report-length : (length (m .words) ≡ 768 → ⊥) → noReport row-state ≡ report o m
   unfolding report lengthsFit
   report-length n = rw (ne-eqb _ _ n, and-false (eqb (length (m .bytes)) 1024))
@@ -56,7 +52,7 @@ module _ (o : Order) (m : Memory) where
   module _ (w : length (m .words) ≡ 768) (e : sound o (m .bytes) ≡ true) where
     fits : (lengthsFit m && sound o (m .bytes)) ≡ true
     unfolding lengthsFit
-    fits = and-i (and-i (eq-eqb _ _ (sound-length e)) (eq-eqb _ _ w)) e
+    fits = and-i (and-i (eq-eqb _ _ (long o (m .bytes) e)) (eq-eqb _ _ w)) e
 
     pub report-order : orderPasses o ≡ false → noReport row-order ≡ report o m
     unfolding report

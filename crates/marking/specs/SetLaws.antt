@@ -2,16 +2,17 @@
 -- Assumes nothing.
 use mathlib.Core.Path.{_≡_, refl, sym, ap, ap₂, _∙_}
 use mathlib.Core.Logic.{_⊎_, inl, inr, ⊎-elim}
-use mathlib.Core.Bool.{Bool, true, false, not, cond, _&&_, _||_}
+use mathlib.Core.Bool.{Bool, true, false, not, cond, _&&_, _||_, and-eq-true-iff, true≢false}
 use Prim.Native.Nat.{ℕ, _+_, _-_, _^_, _≤_, _<_}
 use native.Mathlib.Nat.{zero-add}
 use native.Mathlib.Omega.{arith}
 use lib.Bits.{bitOr}
-use lib.Dec.{ltb}
-use borrow.Author.Tests.{ltb-true, ltb-false, lt-ltb, le-ltb}
+use lib.Dec.{eqb, ltb}
+use borrow.Author.Tests.{eqb-true, eq-eqb, ltb-true, ltb-false, lt-ltb, le-ltb, not-true}
 use Rattle.bits.specs.Bit.{bit, wordOf}
-use Rattle.bits.specs.BitLaws.{bit-zero, bit-or, bit-word, word-is, word-lt}
-use Rattle.bits.specs.AllLaws.{either}
+use Rattle.bits.specs.BitLaws.{bit-ext, bit-zero, bit-or, bit-word, word-is, word-lt}
+use Rattle.bits.specs.All.{anyB}
+use Rattle.bits.specs.AllLaws.{either, both-ways, not-so, and-i, any-i, any-ext, any-false}
 use Rattle.marking.specs.declared.sets.Set.{Set}
 use Rattle.marking.specs.Sets.{has, setOf}
 
@@ -58,6 +59,9 @@ has-set p x l = go (either (ltb x 64))
         let f : 64 + (x - 64) ≡ x = omega arith in
         rw e (bit-word (λ i. p (64 + i)) (x - 64) (omega arith) ∙ ap p f)
 
+pub in-set : (p : ℕ → Bool) {s : Set} → s ≡ setOf p → (x : ℕ) → x < 128 → has s x ≡ p x
+in-set p e x l = ap (λ (s : Set). has s x) e ∙ has-set p x l
+
 pub set-ext : (p q : ℕ → Bool) → ((x : ℕ) → x < 128 → p x ≡ q x) → setOf p ≡ setOf q
 set-ext p q e = set-is q (setOf p) (set-fits p) (λ x l. has-set p x l ∙ e x l)
 
@@ -86,3 +90,23 @@ has-or a b c d x = ⊎-elim (λ e. rw e (bit-or a c x)) (λ e. rw e (bit-or b d 
 pub has-empty : (x : ℕ) → has (pair 0 0) x ≡ false
 unfolding has
 has-empty x = ⊎-elim (λ e. rw e (bit-zero x)) (λ e. rw e (bit-zero (x - 64))) (either (ltb x 64))
+
+-- no number is in a set of two zero words, and some number is in any other
+pub empty-is : (s : Set) → Fits s → (eqb (s .low) 0 && eqb (s .high) 0) ≡ not (anyB 128 (λ x. has s x))
+empty-is s f = both-ways _ _ there back
+  where
+    there : (eqb (s .low) 0 && eqb (s .high) 0) ≡ true → not (anyB 128 (λ x. has s x)) ≡ true
+    there e =
+        let p = simp and-eq-true-iff at e in
+        let low : s .low ≡ 0 = eqb-true _ 0 (p .0) in
+        let high : s .high ≡ 0 = eqb-true _ 0 (p .1) in
+        ap not (any-ext 128 _ _ (λ x l. rw (ap₂ pair low high) (has-empty x)) ∙ any-false 128)
+
+    back : not (anyB 128 (λ x. has s x)) ≡ true → (eqb (s .low) 0 && eqb (s .high) 0) ≡ true
+    back e = and-i (eq-eqb _ 0 (none (s .low) (f .low) (λ i l. sym (has-low s i l) ∙ out i (omega arith)))) (eq-eqb _ 0 (none (s .high) (f .high) (λ i l. sym (has-high s i l) ∙ out (64 + i) (omega arith))))
+      where
+        out : (x : ℕ) → x < 128 → has s x ≡ false
+        out x l = not-so _ (λ h. true≢false (sym (any-i 128 (λ x. has s x) x l h) ∙ not-true _ e))
+
+        none : (w : ℕ) → w < 2 ^ 64 → ((i : ℕ) → i < 64 → bit w i ≡ false) → w ≡ 0
+        none w h b = bit-ext 64 w 0 h (omega arith) (λ i l. b i l ∙ sym (bit-zero i))

@@ -86,7 +86,7 @@ module _ (ws : List ℕ) where
   joined-end n x = joined-ext _ _ x (λ y l. in-none n y) ∙ joined-none x
 
   -- a row as a set
-  has-row : (z x : ℕ) → x < 128 → has (pair (getD ws (2 * z) 0) (getD ws (2 * z + 1) 0)) x ≡ cell 2 ws z x
+  pub has-row : (z x : ℕ) → x < 128 → has (pair (getD ws (2 * z) 0) (getD ws (2 * z + 1) 0)) x ≡ cell 2 ws z x
   unfolding has cell
   has-row z x l = go (either (ltb x 64))
     where

@@ -1,5 +1,6 @@
 // Marking: mark and step, the spread, and the report of what is marked.
 mod marks;
+mod rounds;
 mod sets;
 
 use levels::Order;
@@ -16,6 +17,7 @@ ghost use Rattle.records.specs.Records.{sound};
 ghost use Rattle.model.specs.State.{memory};
 ghost use Rattle.model.specs.Events as events;
 ghost use Rattle.model.specs.Events.{left, outcome, verdictOf};
+ghost use Rattle.model.specs.Spread as model;
 ghost use Rattle.model.specs.Monitor as monitor;
 ghost use Rattle.model.specs.Monitor.{noReport, firstFrom, nextMarked};
 ghost use Rattle.marking.specs.ReportLaws.{reportOf};
@@ -140,4 +142,17 @@ pub fn step(bytes: &mut [u8], words: &[u64], order: Order, x: u16) -> u8
         marks::mark_thing(bytes, x);
     }
     verdict
+}
+
+// Rounds of marking along the flows until one marks nothing; how many marked something.
+pub fn spread(bytes: &mut [u8], words: &[u64], order: Order) -> u8
+    requires { ⌜ (length (now bytes) ≡ 1024) × (length (now words) ≡ 768) × (orderPasses order ≡ true) × (sound order (now bytes) ≡ true) ⌝ }
+    ensures { λ r. ⌜ left 0 r (now (bytes .exit)) (now (words .entry)) ≡ model.spread (memory (now (bytes .entry)) (now (words .entry))) ⌝ }
+{
+    let mut owned = [0u64; 258];
+    rounds::own_rows(bytes, &mut owned);
+    let done = rounds::spread_sets(bytes, words, &owned);
+    let set = done.marked;
+    marks::mark_set(bytes, set);
+    done.rounds
 }

@@ -5,6 +5,7 @@ ghost use Prim.Native.Nat.{_+_, _≤_, _<_};
 ghost use lib.Dec.{eqb};
 ghost use lib.ListN.{length};
 ghost use Rattle.bits.specs.Bit.{wordOf};
+ghost use Rattle.bits.specs.All.{anyB};
 ghost use Rattle.records.specs.Records.{field};
 ghost use Rattle.marking.specs.Sets.{has, setOf, inWord, joined};
 
@@ -66,6 +67,12 @@ pub fn without(a: Set, b: Set) -> Set
         low: a.low & !b.low,
         high: a.high & !b.high,
     }
+}
+
+pub fn is_empty(a: Set) -> bool
+    ensures { λ r. ⌜ r ≡ not (anyB 128 (λ x. has a x)) ⌝ }
+{
+    (a.low == 0) & (a.high == 0)
 }
 
 // Onto a set, the rows of the numbers of a word.

@@ -3,9 +3,10 @@ use mathlib.Core.Bool.{true, false}
 use borrow.Author.Needs.{needs}
 use borrow.Author.Tests.{not-true, not-false}
 use Rattle.model.specs.State.{memory, task}
+use Rattle.model.specs.StateLaws.{task-used, used-below}
 use Rattle.model.specs.Effects.{effects}
 use Rattle.model.specs.Events.{verdictOf, firstFailing, unless, mark}
-use Rattle.marking.specs.EffectLaws.{made, refused, task-below}
+use Rattle.marking.specs.EffectLaws.{made, refused}
 use Rattle.marking.proofs.mark.Statement.{statement}
 use Rattle.marking.proofs.mark.Tie as tie
 
@@ -21,7 +22,8 @@ mark-outside-requires : tie.Need-mark-outside-requires
 unfolding task
 mark-outside-requires c κs =
     let a = c .before .before .before .before .before .before .args in
-    (search needs, task-below (a .bytes .now) (a .words .now) (a .task) (search needs) (sym (c .before .before .is-task .ensures) ∙ not-false _ (c .before .if1 .left)))
+    let m = memory (a .bytes .now) (a .words .now) in
+    (search needs, used-below m (a .task) (search needs) (task-used m (a .task) (sym (c .before .before .is-task .ensures) ∙ not-false _ (c .before .if1 .left))))
 
 returns-2 : tie.Need-returns-2
 unfolding verdictOf firstFailing unless mark task effects

@@ -1,8 +1,9 @@
 use mathlib.Core.Path.{_≡_, sym, _∙_}
 use borrow.Author.Needs.{needs}
 use borrow.Author.Tests.{not-true, not-false}
+use Rattle.records.specs.RecordLaws.{long}
 use Rattle.model.specs.State.{memory}
-use Rattle.marking.specs.ReportLaws.{sound-length, report-length, report-unsound, report-order, report-whole}
+use Rattle.marking.specs.ReportLaws.{report-length, report-unsound, report-order, report-whole}
 use Rattle.marking.proofs.report.Statement.{statement}
 use Rattle.marking.proofs.report.Tie as tie
 
@@ -28,7 +29,7 @@ marked-report-requires : tie.Need-marked-report-requires
 marked-report-requires c κs =
     let a = c .before .before .before .before .before .before .before .args in
     let d = c .before .before in
-    sound-length (a .order) (memory (a .bytes .now) (a .words .now)) (sym (d .before .sound .ensures) ∙ not-false _ (d .if2 .left))
+    long (a .order) (a .bytes .now) (sym (d .before .sound .ensures) ∙ not-false _ (d .if2 .left))
 
 returns-4 : tie.Need-returns-4
 returns-4 c =

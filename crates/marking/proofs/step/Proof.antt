@@ -3,10 +3,11 @@ use mathlib.Core.Bool.{true, false, and-eq-true-iff}
 use borrow.Author.Needs.{needs}
 use borrow.Author.Tests.{eqb-true, not-true, not-false}
 use Rattle.model.specs.State.{memory, inUse, marked}
+use Rattle.model.specs.StateLaws.{used-below}
 use Rattle.model.specs.Effects.{effects}
 use Rattle.model.specs.Events.{step}
 use Rattle.model.specs.TableLaws.{done-tests}
-use Rattle.marking.specs.EffectLaws.{made, refused, step-refused, used-below}
+use Rattle.marking.specs.EffectLaws.{made, refused, step-refused}
 use Rattle.marking.proofs.step.Statement.{statement}
 use Rattle.marking.proofs.step.Tie as tie
 
@@ -17,7 +18,7 @@ mark-thing-requires c κs =
     let m = memory (a .bytes .now) (a .words .now) in
     let v = c .before .before .step-verdict in
     let t = done-tests (step (a .order) m (a .x)) refl (rw (sym (v .ensures (a .order)) ∙ c .before .if1 .taken)) in
-    (search needs, used-below (a .bytes .now) (a .words .now) (a .x) (search needs) (t .0), eqb-true _ 0 (not-false _ (not-true _ ((simp and-eq-true-iff at (t .1 .0)) .0))))
+    (search needs, used-below m (a .x) (search needs) (t .0), eqb-true _ 0 (not-false _ (not-true _ ((simp and-eq-true-iff at (t .1 .0)) .0))))
 
 returns : tie.Need-returns
 unfolding step effects

@@ -1,0 +1,88 @@
+// The rounds of a spread, on sets.
+use crate::sets;
+use crate::sets::Set;
+ghost use mathlib.Core.Path.{_≡_};
+ghost use Prim.Native.Nat.{_≤_, _<_};
+ghost use lib.ListN.{length};
+ghost use Rattle.model.specs.State.{memory};
+ghost use Rattle.marking.specs.RoundLaws.{Table};
+ghost use Rattle.marking.specs.Rounds.{ownRow, ownRows, roundSet, spreadSets};
+
+const RECORD_SIZE: usize = 8;
+
+// Where the kind, the driver and the marks stand in a record.
+const KIND: usize = 0;
+
+const DRIVER: usize = 3;
+
+const MARKS: usize = 5;
+
+// How many numbers there are; the row of this number holds all that drive something.
+const NUMBERS: u16 = 128;
+
+// An object is put into the row of its driver, and its driver into the last row.
+fn own_row(bytes: &[u8], owned: &mut [u64], x: u16)
+    requires { ⌜ (length (now bytes) ≡ 1024) × (x < 128) ⌝ }
+    ensures { λ _. ⌜ now (owned .exit) ≡ ownRow (now (bytes .entry)) x (now (owned .entry)) ⌝ }
+{
+    let at = RECORD_SIZE * (x as usize);
+    if bytes[at] == records::OBJECT {
+        let driver = bytes[at + DRIVER] as u16;
+        rows::add(owned, driver, x);
+        rows::add(owned, NUMBERS, driver);
+    }
+}
+
+// The same for each number.
+pub fn own_rows(bytes: &[u8], owned: &mut [u64])
+    requires { ⌜ length (now bytes) ≡ 1024 ⌝ }
+    ensures { λ _. ⌜ now (owned .exit) ≡ ownRows (now (bytes .entry)) 128 (now (owned .entry)) ⌝ }
+{
+    let mut x: u16 = 0;
+    while x < NUMBERS {
+        own_row(bytes, owned, x);
+        x += 1;
+    }
+}
+
+// What a round marks of the unmarked things in use: those that a source has a flow to, and then the objects of the sources and of these.
+pub fn round(words: &[u64], owned: &[u64], unmarked: Set, sources: Set) -> Set
+    requires { ⌜ (256 ≤ length (now words)) × (length (now owned) ≡ 258) ⌝ }
+    ensures { λ r. ⌜ r ≡ roundSet (now (words .entry)) (now (owned .entry)) unmarked sources ⌝ }
+{
+    let reached = sets::common(sets::rows_of(words, sources), unmarked);
+    let drivers = Set {
+        low: owned[256],
+        high: owned[257],
+    };
+    let driving = sets::common(sets::union(sources, reached), drivers);
+    let driven = sets::common(sets::rows_of(owned, driving), unmarked);
+    sets::union(reached, driven)
+}
+
+// What a spread marks, and by how many rounds.
+pub struct Spread {
+    pub marked: Set,
+    pub rounds: u8,
+}
+
+pub fn spread_sets(bytes: &[u8], words: &[u64], owned: &[u64]) -> Spread
+    requires { ⌜ (length (now bytes) ≡ 1024) × (length (now words) ≡ 768) × (length (now owned) ≡ 258) × Table (memory (now bytes) (now words)) (now owned) ⌝ }
+    ensures { λ r. ⌜ r ≡ spreadSets (memory (now (bytes .entry)) (now (words .entry))) ⌝ }
+{
+    let marked = sets::with_field(bytes, MARKS);
+    let before = sets::without(sets::with_field(bytes, KIND), marked);
+    let mut unmarked = before;
+    let mut new = round(words, owned, unmarked, marked);
+    let mut count: u8 = 0;
+    while !sets::is_empty(new) {
+        count += 1;
+        unmarked = sets::without(unmarked, new);
+        new = round(words, owned, unmarked, new);
+    }
+    let all = sets::without(before, unmarked);
+    Spread {
+        marked: all,
+        rounds: count,
+    }
+}
