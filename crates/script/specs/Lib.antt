@@ -5,3 +5,5 @@ pub mod NumbersLaws
 pub mod CallLaws
 pub mod LineLaws
 pub mod ScriptLaws
+pub mod Print
+pub mod PrintLaws

@@ -1,6 +1,7 @@
 // Reading a line of a script.
 mod calls;
 mod pieces;
+pub mod print;
 
 use levels::Order;
 use model::Call;
