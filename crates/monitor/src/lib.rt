@@ -1,0 +1,265 @@
+// The monitor's public face: every call with its tally, the report, and what C and Rust link.
+ghost use mathlib.Core.Path.{_≡_};
+ghost use mathlib.Core.Bool.{true, _&&_};
+ghost use lib.ListN.{length};
+ghost use Rattle.records.specs.Records.{sound};
+ghost use Rattle.levels.specs.Order.{orderPasses};
+ghost use Rattle.model.specs.State.{memory, lengthsFit};
+ghost use Rattle.model.specs.Events.{left};
+ghost use Rattle.model.specs.Monitor.{perform, raised, oneMore, start, started, report, nextMarked};
+ghost use Rattle.monitor.specs.Request.{callOf};
+use levels::Order;
+use model::Answer;
+use model::Call;
+use model::Report;
+use model::Tally;
+
+// What a call answers, and the tally with it counted.
+#[repr(C)]
+pub struct Counted {
+    pub answer: Answer,
+    pub tally: Tally,
+}
+
+// A call as a C caller writes it: its code, and its numbers in the call's order.
+#[repr(C)]
+pub struct Request {
+    pub code: u16,
+    pub a: u16,
+    pub b: u16,
+    pub c: u16,
+    pub d: u16,
+    pub e: u16,
+}
+
+// One more, stopping at the most that 32 bits hold.
+fn one_more(n: u32) -> u32
+    ensures { λ r. ⌜ r ≡ oneMore n ⌝ }
+{
+    if n < 4294967295 { n + 1 } else { n }
+}
+
+// The tally with a verdict counted.
+fn count(tally: Tally, verdict: u8) -> Tally
+    ensures { λ r. ⌜ r ≡ raised tally verdict ⌝ }
+{
+    let granted = tally.granted;
+    let slipped = tally.slipped;
+    let refused = tally.refused;
+    if verdict == model::GRANTED {
+        let more = one_more(granted);
+        return Tally {
+            granted: more,
+            slipped,
+            refused,
+        };
+    }
+    if verdict == model::SLIPPED {
+        let more = one_more(slipped);
+        return Tally {
+            granted,
+            slipped: more,
+            refused,
+        };
+    }
+    let more = one_more(refused);
+    Tally {
+        granted,
+        slipped,
+        refused: more,
+    }
+}
+
+// The call that a request is.
+pub fn call_of(request: Request) -> Call
+    ensures { λ r. ⌜ r ≡ callOf request ⌝ }
+{
+    let code = request.code;
+    let a = request.a;
+    let b = request.b;
+    let c = request.c;
+    let d = request.d;
+    let e = request.e;
+    match code {
+        0 => Call::Start,
+        1 => Call::Read(a, b, c),
+        2 => Call::Write(a, b, c),
+        3 => Call::Execute(a, b, c, d, e),
+        4 => Call::Create(a, b, c, d, e),
+        5 => Call::CreateRoot(a, b, c, d),
+        6 => Call::Move(a, b, c, d, e),
+        7 => Call::Delete(a, b, c, d),
+        8 => Call::CallTask(a, b),
+        9 => Call::Invoke(a, b),
+        10 => Call::Pass(a, b, c),
+        11 => Call::Post(a, b, c),
+        12 => Call::Find(a, b, c),
+        13 => Call::Mark(a),
+        14 => Call::Step(a),
+        15 => Call::Spread,
+        _ => Call::Mark(65535),
+    }
+}
+
+// Both lengths are right.
+fn lengths_fit(bytes: &[u8], words: &[u64]) -> bool
+    ensures { λ r. ⌜ r ≡ lengthsFit (memory (now (bytes .entry)) (now (words .entry))) ⌝ }
+{
+    (bytes.len() == 1024) & (words.len() == 768)
+}
+
+// The core alone, at the top; all else zero.
+fn set_up(bytes: &mut [u8], words: &mut [u64], order: Order)
+    requires { ⌜ (lengthsFit (memory (now bytes) (now words)) ≡ true) × (orderPasses order ≡ true) ⌝ }
+    ensures { λ _. ⌜ memory (now (bytes .exit)) (now (words .exit)) ≡ started order ⌝ }
+{
+    let top = (order.top % 256) as u8;
+    records::clear_all(bytes);
+    records::set_record(bytes, 0, records::TASK, top, top, 0, 0, 0);
+    rows::clear_all(words);
+}
+
+// A start tests lengths and the order only.
+fn start(bytes: &mut [u8], words: &mut [u64], order: Order) -> u8
+    ensures { λ r. ⌜ left r 0 (now (bytes .exit)) (now (words .exit)) ≡ start order (memory (now (bytes .entry)) (now (words .entry))) ⌝ }
+{
+    if !lengths_fit(bytes, words) {
+        return model::STATE;
+    }
+    if !levels::order_passes(order) {
+        return model::ORDER;
+    }
+    set_up(bytes, words, order);
+    model::GRANTED
+}
+
+// Row 2 of every call but a start.
+fn fits(bytes: &[u8], words: &[u64], order: Order) -> bool
+    ensures { λ r. ⌜ r ≡ (lengthsFit (memory (now (bytes .entry)) (now (words .entry))) && sound order (now (bytes .entry))) ⌝ }
+{
+    if lengths_fit(bytes, words) {
+        records::sound(bytes, order)
+    } else {
+        false
+    }
+}
+
+// A verdict without rounds, as every call but a granted spread has it.
+fn plain(verdict: u8) -> Answer
+    ensures { λ r. ⌜ (r .verdict ≡ verdict) × (r .rounds ≡ 0) ⌝ }
+{
+    Answer { verdict, rounds: 0 }
+}
+
+// A call that has passed rows 2 and 3; a start tests for itself.
+fn event(bytes: &mut [u8], words: &mut [u64], order: Order, call: Call) -> Answer
+    requires { ⌜ (length (now bytes) ≡ 1024) × (length (now words) ≡ 768) × (orderPasses order ≡ true) × (sound order (now bytes) ≡ true) ⌝ }
+    ensures { λ r. ⌜ left (r .verdict) (r .rounds) (now (bytes .exit)) (now (words .exit)) ≡ perform order (memory (now (bytes .entry)) (now (words .entry))) call ⌝ }
+{
+    match call {
+        Call::Start => plain(start(bytes, words, order)),
+        Call::Read(e, d, o) => plain(events::read(bytes, words, order, e, d, o)),
+        Call::Write(e, d, o) => plain(events::write(bytes, words, order, e, d, o)),
+        Call::Execute(c, i, n, l, r) => plain(events::execute(bytes, words, order, c, i, n, l, r)),
+        Call::Create(c, d, n, k, l) => plain(events::create(bytes, words, order, c, d, n, k, l)),
+        Call::CreateRoot(c, d, n, l) => plain(events::create_root(bytes, words, order, c, d, n, l)),
+        Call::Move(e, d, o, f, t) => plain(events::move_object(bytes, words, order, e, d, o, f, t)),
+        Call::Delete(e, d, o, k) => plain(events::delete(bytes, words, order, e, d, o, k)),
+        Call::CallTask(a, b) => plain(flows::call_task(bytes, words, order, a, b)),
+        Call::Invoke(a, b) => plain(flows::invoke(bytes, words, order, a, b)),
+        Call::Pass(z, x, y) => plain(flows::pass(bytes, words, order, z, x, y)),
+        Call::Post(x, z, y) => plain(flows::post(bytes, words, order, x, z, y)),
+        Call::Find(x, z, y) => plain(flows::find(bytes, words, order, x, z, y)),
+        Call::Mark(e) => plain(marking::mark(bytes, words, order, e)),
+        Call::Step(x) => plain(marking::step(bytes, words, order, x)),
+        Call::Spread => Answer {
+            verdict: model::GRANTED,
+            rounds: marking::spread(bytes, words, order),
+        },
+    }
+}
+
+// Every call but its tally.
+pub fn answer(bytes: &mut [u8], words: &mut [u64], order: Order, call: Call) -> Answer
+    ensures { λ r. ⌜ left (r .verdict) (r .rounds) (now (bytes .exit)) (now (words .exit)) ≡ perform order (memory (now (bytes .entry)) (now (words .entry))) call ⌝ }
+{
+    if let Call::Start = call {
+        return plain(start(bytes, words, order));
+    }
+    if !fits(bytes, words, order) {
+        return plain(model::STATE);
+    }
+    if !levels::order_passes(order) {
+        return plain(model::ORDER);
+    }
+    event(bytes, words, order, call)
+}
+
+// A whole call, with the tally by value.
+pub fn perform(
+    bytes: &mut [u8],
+    words: &mut [u64],
+    tally: Tally,
+    order: Order,
+    call: Call,
+) -> Counted
+    ensures { λ r. ⌜ (left (r .answer .verdict) (r .answer .rounds) (now (bytes .exit)) (now (words .exit)) ≡ perform order (memory (now (bytes .entry)) (now (words .entry))) call)
+        × (r .tally ≡ raised tally (perform order (memory (now (bytes .entry)) (now (words .entry))) call .verdict)) ⌝ }
+{
+    let given = answer(bytes, words, order, call);
+    let verdict = given.verdict;
+    let next = count(tally, verdict);
+    Counted {
+        answer: given,
+        tally: next,
+    }
+}
+
+// The same for a request.
+pub fn perform_request(
+    bytes: &mut [u8],
+    words: &mut [u64],
+    tally: Tally,
+    order: Order,
+    request: Request,
+) -> Counted
+    ensures { λ r. ⌜ (left (r .answer .verdict) (r .answer .rounds) (now (bytes .exit)) (now (words .exit)) ≡ perform order (memory (now (bytes .entry)) (now (words .entry))) (callOf request))
+        × (r .tally ≡ raised tally (perform order (memory (now (bytes .entry)) (now (words .entry))) (callOf request) .verdict)) ⌝ }
+{
+    let call = call_of(request);
+    perform(bytes, words, tally, order, call)
+}
+
+// The one thin function over the lent tally, and what C and Rust call.
+#[no_mangle]
+pub extern "C" fn tupehiwo_perform(
+    bytes: &mut [u8],
+    words: &mut [u64],
+    tally: &mut Tally,
+    order: Order,
+    request: Request,
+) -> Answer
+    ensures { λ r. ⌜ (left (r .verdict) (r .rounds) (now (bytes .exit)) (now (words .exit)) ≡ perform order (memory (now (bytes .entry)) (now (words .entry))) (callOf request))
+        × (now (tally .exit) ≡ raised (now (tally .entry)) (perform order (memory (now (bytes .entry)) (now (words .entry))) (callOf request) .verdict)) ⌝ }
+{
+    let before = *tally;
+    let done = perform_request(bytes, words, before, order, request);
+    *tally = done.tally;
+    done.answer
+}
+
+// The report, as C and Rust call it.
+#[no_mangle]
+pub extern "C" fn tupehiwo_report(bytes: &[u8], words: &[u64], order: Order) -> Report
+    ensures { λ r. ⌜ r ≡ report order (memory (now (bytes .entry)) (now (words .entry))) ⌝ }
+{
+    marking::report(bytes, words, order)
+}
+
+// The lowest marked number of a report at or above a number; 128 where there is none.
+#[no_mangle]
+pub extern "C" fn tupehiwo_next_marked(report: Report, from: u16) -> u16
+    ensures { λ r. ⌜ r ≡ nextMarked report from ⌝ }
+{
+    marking::next_marked(report, from)
+}
