@@ -1,0 +1,223 @@
+#include "cases.h"
+
+#include <string.h>
+
+static void request(struct item *item, unsigned code, unsigned a, unsigned b, unsigned c,
+                    unsigned d, unsigned e)
+{
+    struct tupehiwo_request q = {(uint16_t)code, (uint16_t)a, (uint16_t)b,
+                                 (uint16_t)c,    (uint16_t)d, (uint16_t)e};
+    item->requests[item->count++] = q;
+}
+
+static void mark(struct item *item, unsigned task)
+{
+    must(&item->world, TUPEHIWO_CODE_MARK, task, 0, 0, 0, 0);
+}
+
+static void fill_and_use(struct item *item, const struct plan *plan)
+{
+    fill_world(&item->world, plan->things);
+    use_world(&item->world);
+}
+
+/* ----------------------------------------------------------------- events */
+
+/* The call that takes an access: of a random task to a random object, one that is granted. */
+static void access(struct item *item, const struct plan *plan, unsigned code)
+{
+    unsigned task, object, driver;
+    struct world before;
+    fill_and_use(item, plan);
+    before = item->world;
+    do {
+        item->world.m = before.m;
+        task = any(&item->world, TASK);
+        object = any(&item->world, OBJECT);
+        driver = driver_of(&item->world, object);
+    } while (done(&item->world, code, task, driver, object, 0, 0) != TUPEHIWO_GRANTED);
+    item->world.m = before.m;
+    request(item, code, task, driver, object, 0, 0);
+}
+
+static void build_read(struct item *item, const struct plan *plan)
+{
+    access(item, plan, TUPEHIWO_CODE_READ);
+}
+
+static void build_write(struct item *item, const struct plan *plan)
+{
+    access(item, plan, TUPEHIWO_CODE_WRITE);
+}
+
+static void build_invoke(struct item *item, const struct plan *plan)
+{
+    fill_and_use(item, plan);
+    request(item, TUPEHIWO_CODE_INVOKE, CORE, any(&item->world, TASK), 0, 0, 0);
+}
+
+/* An object is deleted and made again, so that all numbers can be in use. */
+static void build_remade(struct item *item, const struct plan *plan)
+{
+    unsigned last = plan->things - 1, level = any_level(&item->world);
+    fill_world(&item->world, last);
+    must(&item->world, TUPEHIWO_CODE_WRITE, CORE, CORE, IMAGE, 0, 0);
+    must(&item->world, TUPEHIWO_CODE_CREATE, CORE, CORE, last, IMAGE, level);
+    item->world.things++;
+    use_world(&item->world);
+    request(item, TUPEHIWO_CODE_DELETE, CORE, CORE, last, IMAGE, 0);
+    request(item, TUPEHIWO_CODE_CREATE, CORE, CORE, last, IMAGE, level);
+}
+
+static void build_unfit(struct item *item, const struct plan *plan)
+{
+    fill_and_use(item, plan);
+    request(item, TUPEHIWO_CODE_READ, FIRST_TASK, CORE, TUPEHIWO_THINGS, 0, 0);
+    item->verdict = TUPEHIWO_NUMBER;
+}
+
+/* The last spare byte of the last record is not zero. */
+static void build_unsound(struct item *item, const struct plan *plan)
+{
+    access(item, plan, TUPEHIWO_CODE_WRITE);
+    item->world.m.bytes[TUPEHIWO_BYTES - 1] = 1;
+    item->verdict = TUPEHIWO_STATE;
+}
+
+static void build_start(struct item *item, const struct plan *plan)
+{
+    fill_and_use(item, plan);
+    request(item, TUPEHIWO_CODE_START, 0, 0, 0, 0, 0);
+}
+
+/* ------------------------------------------------------------------ marks */
+
+enum { OBJECTS_OF_ONE = 60 };
+
+/* The driver and its objects have the last numbers. */
+static void build_mark(struct item *item, const struct plan *plan)
+{
+    struct world *w = &item->world;
+    unsigned driver = plan->things - OBJECTS_OF_ONE - 1, top = plan->levels - 1;
+    fill_world(w, driver);
+    must(w, TUPEHIWO_CODE_EXECUTE, CORE, IMAGE, driver, top, top);
+    for (w->things = driver + 1; w->things < plan->things; w->things++)
+        must(w, TUPEHIWO_CODE_CREATE_ROOT, CORE, driver, w->things, any_level(w), 0);
+    use_world(w);
+    request(item, TUPEHIWO_CODE_MARK, driver, 0, 0, 0, 0);
+}
+
+/* A task that a marked one feeds. */
+static void build_step(struct item *item, const struct plan *plan)
+{
+    struct world *w = &item->world;
+    unsigned source, task;
+    fill_world(w, plan->things);
+    source = any(w, TASK);
+    do
+        task = any(w, TASK);
+    while (task == source);
+    connect(w, source, task);
+    mark(item, source);
+    request(item, TUPEHIWO_CODE_STEP, task, 0, 0, 0, 0);
+}
+
+static void build_report(struct item *item, const struct plan *plan)
+{
+    fill_and_use(item, plan);
+    mark(item, any(&item->world, TASK));
+    must(&item->world, TUPEHIWO_CODE_SPREAD, 0, 0, 0, 0, 0);
+}
+
+/* ----------------------------------------------------------------- spreads */
+
+static void spread(struct item *item, unsigned rounds)
+{
+    request(item, TUPEHIWO_CODE_SPREAD, 0, 0, 0, 0, 0);
+    item->rounds = (uint8_t)rounds;
+}
+
+/*
+ * Tasks FIRST_TASK to 127 in a line, and last the core, whose object the image
+ * is: 126 rounds if the first is marked, and fewer from one further on.
+ */
+static void build_chain(struct item *item, const struct plan *plan)
+{
+    struct world *w = &item->world;
+    unsigned top = plan->levels - 1, rest = TUPEHIWO_THINGS - FIRST_TASK - plan->rounds;
+    for (; w->things < plan->things; w->things++) {
+        must(w, TUPEHIWO_CODE_EXECUTE, CORE, IMAGE, w->things, top, top);
+        connect(w, w->things - 1, w->things);
+    }
+    connect(w, w->things - 1, CORE);
+    mark(item, plan->rounds == 0 ? CORE : FIRST_TASK + rest);
+    spread(item, plan->rounds);
+}
+
+/* One task feeds all others. */
+static void build_star(struct item *item, const struct plan *plan)
+{
+    fill_world(&item->world, plan->things);
+    for (unsigned n = 0; n < plan->things; n++)
+        connect(&item->world, FIRST_TASK, n);
+    mark(item, FIRST_TASK);
+    spread(item, 1);
+}
+
+/* Each flow that a call can record is there or not, as a coin falls. */
+static void build_dense(struct item *item, const struct plan *plan)
+{
+    fill_world(&item->world, plan->things);
+    for (unsigned from = 0; from < plan->things; from++)
+        for (unsigned to = 0; to < plan->things; to++)
+            if (draw(&item->world.random, 2))
+                connect(&item->world, from, to);
+    connect(&item->world, FIRST_TASK, CORE);
+    mark(item, FIRST_TASK);
+    spread(item, ANY_ROUNDS);
+}
+
+static void build_unmarked(struct item *item, const struct plan *plan)
+{
+    fill_and_use(item, plan);
+    spread(item, 0);
+}
+
+/* What the dense graph's spread leaves. */
+static void build_settled(struct item *item, const struct plan *plan)
+{
+    build_dense(item, plan);
+    must(&item->world, TUPEHIWO_CODE_SPREAD, 0, 0, 0, 0, 0);
+    item->rounds = 0;
+}
+
+/* ------------------------------------------------------------------ tables */
+
+const struct bench_case cases[] = {
+    {"read", build_read, FIRST_THINGS, 1},
+    {"write", build_write, FIRST_THINGS, 1},
+    {"invoke", build_invoke, FIRST_THINGS, 1},
+    {"delete_and_create", build_remade, FIRST_THINGS + 1, 1},
+    {"refusal_with_4", build_unfit, FIRST_THINGS, 1},
+    {"refusal_with_2_at_the_last_record", build_unsound, FIRST_THINGS, 1},
+    {"start", build_start, TUPEHIWO_THINGS, 1},
+    {"mark_of_a_driver_of_60_objects", build_mark, FIRST_THINGS + OBJECTS_OF_ONE + 1, 1},
+    {"step", build_step, FIRST_THINGS, 0},
+    {"report", build_report, FIRST_THINGS, 1},
+    {"spread_of_a_chain", build_chain, TUPEHIWO_THINGS, 0},
+    {"spread_of_a_star", build_star, FIRST_THINGS, 0},
+    {"spread_of_a_dense_graph", build_dense, FIRST_THINGS, 0},
+    {"spread_of_no_mark", build_unmarked, FIRST_THINGS, 1},
+    {"spread_with_all_marked", build_settled, FIRST_THINGS, 0},
+};
+
+const unsigned case_count = sizeof cases / sizeof cases[0];
+const struct bench_case *const case_write = &cases[1], *const case_chain = &cases[10];
+
+void build_item(struct item *item, const struct bench_case *subject, const struct plan *plan,
+                uint64_t seed)
+{
+    memset(item, 0, sizeof *item);
+    begin_world(&item->world, plan->levels, subject->mixed, seed);
+    subject->build(item, plan);
+}

@@ -1,0 +1,39 @@
+/* What is measured: each case makes a state, and asks one or two calls or a report of it. */
+#ifndef CASES_H
+#define CASES_H
+
+#include "world.h"
+
+/* The parts of one measurement that its table varies. */
+struct plan {
+    unsigned things, levels, rounds;
+};
+
+/* A state, and what is asked on it: requests, or a report if there is none. */
+struct item {
+    struct world world;
+    struct tupehiwo_request requests[2];
+    unsigned count;
+    uint8_t verdict; /* that each request must give */
+    uint8_t rounds;  /* and how many rounds, or ANY_ROUNDS */
+};
+
+enum { ANY_ROUNDS = 255 };
+
+struct bench_case {
+    const char *name;
+    void (*build)(struct item *item, const struct plan *plan);
+    unsigned fewest; /* things in use that the case needs */
+    int mixed;       /* things at random levels */
+};
+
+extern const struct bench_case cases[];
+extern const unsigned case_count;
+
+/* The cases that the growth of the cost is shown with. */
+extern const struct bench_case *const case_write, *const case_chain;
+
+void build_item(struct item *item, const struct bench_case *subject, const struct plan *plan,
+                uint64_t seed);
+
+#endif

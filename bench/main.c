@@ -1,0 +1,92 @@
+/*
+ * Measures the proved monitor against the plain C one.
+ *
+ *   harness RUNS BATCHES   holds the answers of both against each other and times them
+ *   harness once           only holds them against each other, for a counter of instructions
+ *   harness script LINES   prints a script for the script programs
+ *
+ * One line for each measurement: table, case, things in use, levels, rounds, and
+ * the times of plain C and of the proved library in nanoseconds for each item.
+ */
+#include <stdio.h>
+#include <stdlib.h>
+#include <string.h>
+
+#include "measure.h"
+#include "script.h"
+
+static struct effort effort; /* no runs: nothing is timed */
+static int failures;
+
+static void line(const char *table, const struct bench_case *subject, struct plan plan)
+{
+    static struct item items[VARIANTS];
+    for (unsigned v = 0; v < VARIANTS; v++)
+        build_item(&items[v], subject, &plan, v + 1);
+    if (!same_on_both(items, subject->name)) {
+        failures++;
+        return;
+    }
+    printf("%-8s %-34s %4u %3u %4u", table, subject->name, plan.things, plan.levels,
+           rounds_of_first());
+    if (effort.runs != 0) {
+        struct times times = measure(items, effort);
+        printf(" %9.1f %9.1f", times.best[PLAIN], times.best[PROVED]);
+    }
+    printf("\n");
+    fflush(stdout);
+}
+
+enum { HALF = TUPEHIWO_THINGS / 2, MOST_ROUNDS = 126 };
+
+/* The core and what the case needs, half of the numbers, and all. */
+static void measure_case(const struct bench_case *subject)
+{
+    static const unsigned levels[] = {1, 4, 16};
+    const unsigned things[] = {subject->fewest, HALF, TUPEHIWO_THINGS};
+    for (unsigned t = 0; t < 3; t++) {
+        if (t > 0 && things[t] <= subject->fewest)
+            continue;
+        for (unsigned l = 0; l < 3; l++) {
+            struct plan plan = {things[t], levels[l], subject == case_chain ? MOST_ROUNDS : 0};
+            line("cases", subject, plan);
+        }
+    }
+}
+
+static void measure_growth(void)
+{
+    static const unsigned things[] = {FIRST_THINGS, 16, 32, 64, 96, 128};
+    static const unsigned levels[] = {1, 2, 4, 8, 12, 16};
+    static const unsigned rounds[] = {0, 1, 2, 4, 8, 16, 32, 64, MOST_ROUNDS};
+    for (unsigned i = 0; i < sizeof things / sizeof things[0]; i++)
+        line("things", case_write, (struct plan){things[i], 4, 0});
+    for (unsigned i = 0; i < sizeof levels / sizeof levels[0]; i++)
+        line("levels", case_write, (struct plan){FIRST_THINGS, levels[i], 0});
+    for (unsigned i = 0; i < sizeof rounds / sizeof rounds[0]; i++)
+        line("rounds", case_chain, (struct plan){TUPEHIWO_THINGS, 4, rounds[i]});
+}
+
+static int usage(void)
+{
+    fprintf(stderr, "harness RUNS BATCHES, harness once, or harness script LINES\n");
+    return 2;
+}
+
+int main(int words, char **word)
+{
+    if (words == 3 && strcmp(word[1], "script") == 0) {
+        print_script((unsigned)atoi(word[2]));
+        return 0;
+    }
+    if (words == 3) {
+        effort.runs = (unsigned)atoi(word[1]);
+        effort.batches = (unsigned)atoi(word[2]);
+    }
+    if (words == 3 ? !fit(effort) : words != 2 || strcmp(word[1], "once") != 0)
+        return usage();
+    for (unsigned c = 0; c < case_count; c++)
+        measure_case(&cases[c]);
+    measure_growth();
+    return failures != 0;
+}

@@ -1,0 +1,177 @@
+#include "measure.h"
+
+#include <stdio.h>
+#include <stdlib.h>
+#include <string.h>
+#include <time.h>
+#include <x86intrin.h>
+
+enum { MOST_BATCHES = 4096 };
+
+/* The memory lent, and what was answered. */
+struct trial {
+    struct tupehiwo_monitor memory;
+    struct tupehiwo_answer answers[2];
+    struct tupehiwo_report report;
+};
+
+/* Both sides work on the same memory, one after the other, each on fresh copies. */
+static _Alignas(64) struct trial trials[VARIANTS];
+
+static void restore(const struct item items[VARIANTS])
+{
+    for (unsigned v = 0; v < VARIANTS; v++)
+        trials[v].memory = items[v].world.m;
+}
+
+/* Not inlined: the counter of instructions finds it by its name. */
+__attribute__((noinline)) void run_batch(const struct side *side,
+                                         const struct item items[VARIANTS])
+{
+    for (unsigned v = 0; v < VARIANTS; v++) {
+        struct trial *trial = &trials[v];
+        for (unsigned i = 0; i < items[v].count; i++)
+            trial->answers[i] = ask(side, &trial->memory, items[v].requests[i]);
+        if (items[v].count == 0)
+            trial->report = ask_report(side, &trial->memory);
+    }
+}
+
+/* ------------------------------------------------------------------ checks */
+
+static int same_report(const struct tupehiwo_report *a, const struct tupehiwo_report *b)
+{
+    return memcmp(a->words, b->words, sizeof a->words) == 0 && a->ones == b->ones &&
+           a->verdict == b->verdict;
+}
+
+static int same_trial(const struct trial *a, const struct trial *b)
+{
+    return memcmp(&a->memory, &b->memory, sizeof a->memory) == 0 &&
+           memcmp(a->answers, b->answers, sizeof a->answers) == 0 &&
+           same_report(&a->report, &b->report);
+}
+
+static int expected(const struct item *item, const struct trial *trial)
+{
+    for (unsigned i = 0; i < item->count; i++)
+        if (trial->answers[i].verdict != item->verdict)
+            return 0;
+    return (item->rounds == ANY_ROUNDS || trial->answers[0].rounds == item->rounds) &&
+           trial->report.verdict == TUPEHIWO_GRANTED;
+}
+
+unsigned rounds_of_first(void)
+{
+    return trials[0].answers[0].rounds;
+}
+
+int same_on_both(const struct item items[VARIANTS], const char *name)
+{
+    static struct trial of_plain[VARIANTS];
+    memset(trials, 0, sizeof trials);
+    restore(items);
+    run_batch(&sides[PLAIN], items);
+    memcpy(of_plain, trials, sizeof trials);
+    memset(trials, 0, sizeof trials);
+    restore(items);
+    run_batch(&sides[PROVED], items);
+    for (unsigned v = 0; v < VARIANTS; v++)
+        if (!same_trial(&of_plain[v], &trials[v]) || !expected(&items[v], &trials[v])) {
+            fprintf(stderr, "%s: not the same, or not as expected, on both sides\n", name);
+            return 0;
+        }
+    return 1;
+}
+
+/* ------------------------------------------------------------------- times */
+
+/* The fences keep the calls from moving across the reading. */
+static inline uint64_t ticks(void)
+{
+    _mm_lfence();
+    uint64_t t = __rdtsc();
+    _mm_lfence();
+    return t;
+}
+
+static double nanoseconds(void)
+{
+    struct timespec t;
+    clock_gettime(CLOCK_MONOTONIC, &t);
+    return (double)t.tv_sec * 1e9 + (double)t.tv_nsec;
+}
+
+static double ticks_of_a_nanosecond(void)
+{
+    static double rate;
+    if (rate == 0) {
+        double begin = nanoseconds();
+        uint64_t from = ticks();
+        while (nanoseconds() < begin + 2e7)
+            ;
+        rate = (double)(ticks() - from) / (nanoseconds() - begin);
+    }
+    return rate;
+}
+
+static int rising(const void *a, const void *b)
+{
+    uint64_t x = *(const uint64_t *)a, y = *(const uint64_t *)b;
+    return (x > y) - (x < y);
+}
+
+static uint64_t middle(uint64_t *values, unsigned count)
+{
+    qsort(values, count, sizeof *values, rising);
+    return values[count / 2];
+}
+
+int fit(struct effort effort)
+{
+    return effort.runs > 0 && effort.batches > 0 && effort.batches <= MOST_BATCHES;
+}
+
+/* What two readings of the clock take with nothing between them. */
+static uint64_t ticks_of_nothing(void)
+{
+    static uint64_t took[MOST_BATCHES];
+    for (unsigned b = 0; b < MOST_BATCHES; b++) {
+        uint64_t from = ticks();
+        took[b] = ticks() - from;
+    }
+    return middle(took, MOST_BATCHES);
+}
+
+/* The states are restored before the clock is read, so restoring them is not in the time. */
+static uint64_t timed_batch(const struct side *side, const struct item items[VARIANTS])
+{
+    restore(items);
+    uint64_t from = ticks();
+    run_batch(side, items);
+    return ticks() - from;
+}
+
+/*
+ * Batches of the two sides take turns, so that what else the machine does falls
+ * on both. A run's time is its middle batch; the least of all runs is given.
+ */
+struct times measure(const struct item items[VARIANTS], struct effort effort)
+{
+    static uint64_t took[SIDES][MOST_BATCHES];
+    uint64_t best[SIDES] = {UINT64_MAX, UINT64_MAX}, nothing = ticks_of_nothing();
+    struct times times;
+    for (unsigned r = 0; r < effort.runs; r++) {
+        for (unsigned b = 0; b < effort.batches; b++)
+            for (unsigned s = 0; s < SIDES; s++)
+                took[s][b] = timed_batch(&sides[s], items);
+        for (unsigned s = 0; s < SIDES; s++) {
+            uint64_t run = middle(took[s], effort.batches);
+            if (run < best[s])
+                best[s] = run;
+        }
+    }
+    for (unsigned s = 0; s < SIDES; s++)
+        times.best[s] = (double)(best[s] - nothing) / VARIANTS / ticks_of_a_nanosecond();
+    return times;
+}

@@ -1,0 +1,34 @@
+/* The two monitors that are measured, behind one face. */
+#ifndef SIDE_H
+#define SIDE_H
+
+#include "baseline.h"
+
+struct side {
+    struct tupehiwo_answer (*perform)(uint8_t *bytes, size_t nbytes, uint64_t *words,
+                                      size_t nwords, struct tupehiwo_tally *tally,
+                                      struct tupehiwo_order order,
+                                      struct tupehiwo_request request);
+    struct tupehiwo_report (*report)(const uint8_t *bytes, size_t nbytes, const uint64_t *words,
+                                     size_t nwords, struct tupehiwo_order order);
+};
+
+enum { PLAIN, PROVED, SIDES };
+
+static const struct side sides[SIDES] = {{baseline_perform, baseline_report},
+                                         {tupehiwo_perform, tupehiwo_report}};
+
+static inline struct tupehiwo_answer ask(const struct side *side, struct tupehiwo_monitor *m,
+                                         struct tupehiwo_request request)
+{
+    return side->perform(m->bytes, TUPEHIWO_BYTES, m->words, TUPEHIWO_WORDS, &m->tally,
+                         m->order, request);
+}
+
+static inline struct tupehiwo_report ask_report(const struct side *side,
+                                                const struct tupehiwo_monitor *m)
+{
+    return side->report(m->bytes, TUPEHIWO_BYTES, m->words, TUPEHIWO_WORDS, m->order);
+}
+
+#endif
