@@ -1,8 +1,8 @@
 -- From a decision to the verdict and the outcome of its event's table.
 -- Assumes nothing.
-use mathlib.Core.Path.{_≡_, refl, sym, ap, _∙_}
-use mathlib.Core.Bool.{Bool, true, false, _&&_, _||_, true≢false}
-use mathlib.Core.List.{List}
+use mathlib.Core.Path.{_≡_, refl, sym, ap, ap₂, _∙_}
+use mathlib.Core.Bool.{Bool, true, false, _&&_, true≢false}
+use mathlib.Core.List.{List, _∷_}
 use Prim.Native.Nat.{ℕ, suc, _≤_, _<_}
 use native.Mathlib.Nat.{lt-of-not-le}
 use native.Mathlib.Omega.{arith}
@@ -12,8 +12,8 @@ use borrow.Author.Tests.{le-leb, lt-leb}
 use Rattle.records.specs.Records.{numbers, field, kind, isTask, isObject}
 use Rattle.model.specs.Verdicts.{granted, slipped, row-path, row-rule, isDone}
 use Rattle.model.specs.State.{Memory, memory, task, object}
-use Rattle.model.specs.Effects.{Effect, effects}
-use Rattle.model.specs.Events.{Event, Outcome, left, unless, verdictOf, outcome}
+use Rattle.model.specs.Effects.{Effect, effect, effects}
+use Rattle.model.specs.Events.{Event, left, unless, verdictOf, outcome}
 use Rattle.model.specs.TableLaws.{refusals, Holds, done-tests}
 use Rattle.decisions.specs.declared.Decision.{Decision}
 use Rattle.decisions.specs.Decisions.{judged, apart}
@@ -88,3 +88,9 @@ module _ {m : Memory} {e : Event} {j : Decision} {does : Decision → List Effec
   told-tests h r =
       let v : d .verdict ≡ verdictOf e = rw is (t .verdict) in
       done-tests e r (rw v at (le-leb _ _ h))
+
+-- an effect on the bytes alone, then effects that leave the bytes
+pub bytes-first : (e : Effect) (es : List Effect) (bs : List ℕ) {bs′ ws ws′ : List ℕ} → bs′ ≡ effect e (memory bs ws) .bytes → effect e (memory bs ws) .words ≡ ws
+    → ((b : List ℕ) → memory b ws′ ≡ effects es (memory b ws)) → memory bs′ ws′ ≡ effects (e ∷ es) (memory bs ws)
+unfolding effects
+bytes-first e es bs {bs′} {ws} {ws′} p q h = h bs′ ∙ ap₂ (λ (b w : List ℕ). effects es (memory b w)) p (sym q)

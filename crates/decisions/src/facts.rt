@@ -6,6 +6,7 @@ ghost use lib.Dec.{ltb, eqb};
 ghost use Rattle.rows.specs.Rows.{cell};
 ghost use Rattle.levels.specs.Order.{atOrBelow};
 ghost use Rattle.records.specs.Records.{field, isTask, isObject};
+ghost use Rattle.decisions.specs.Facts.{writes, bothWrite};
 use levels::Order;
 use records::FREE;
 use records::KIND;
@@ -17,7 +18,8 @@ pub const READS: u16 = 128;
 
 pub const WRITES: u16 = 256;
 
-const NUMBERS: u16 = 128;
+// How many numbers there are, and rows in a table.
+pub const NUMBERS: u16 = 128;
 
 // The level l is at or below the level of y.
 pub fn level_below(bytes: &[u8], order: Order, l: u16, y: u16) -> bool
@@ -71,4 +73,18 @@ pub fn has_access(words: &[u64], table: u16, e: u16, x: u16) -> bool
     } else {
         false
     }
+}
+
+// The task e has write access to x.
+pub fn writes(words: &[u64], e: u16, x: u16) -> bool
+    ensures { λ r. ⌜ r ≡ writes (now (words .entry)) e x ⌝ }
+{
+    has_access(words, WRITES, e, x)
+}
+
+// Both tasks have write access to k.
+pub fn both_write(words: &[u64], e: u16, d: u16, k: u16) -> bool
+    ensures { λ r. ⌜ r ≡ bothWrite (now (words .entry)) e d k ⌝ }
+{
+    writes(words, e, k) & writes(words, d, k)
 }

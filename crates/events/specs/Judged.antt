@@ -1,28 +1,21 @@
--- The facts that each event goes by, and its decision with the verdict of its whole table.
+-- The tests and rows of the events on objects, the facts that each goes by, and its decision with the verdict of its whole table.
 -- Assumes nothing.
-use mathlib.Core.Bool.{Bool, false, not, _&&_, _||_}
+use mathlib.Core.Bool.{Bool, not, _&&_, _||_}
 use mathlib.Core.List.{List}
 use Prim.Native.Nat.{ℕ}
-use lib.Dec.{ltb, eqb}
+use lib.Dec.{eqb}
 use Rattle.bits.specs.All.{anyB}
-use Rattle.rows.specs.Rows.{cell}
-use Rattle.records.specs.Records.{numbers, kind, driver, container, isTask, isObject}
+use Rattle.records.specs.Records.{numbers, driver, container, isTask, isObject}
 use Rattle.levels.specs.declared.Order.{Order}
-use Rattle.levels.specs.Order.{inOrder, atOrBelow}
-use Rattle.model.specs.Verdicts.{granted, row-number, row-taken, row-driver, row-place, row-held, row-scale, row-rule, row-filled}
-use Rattle.model.specs.State.{Memory, rowSize, writeRow, levelOf, readLevelOf, marked}
-use Rattle.model.specs.Events.{unless, verdictOf, read, write, execute, create, createRoot, move, delete}
+use Rattle.levels.specs.Order.{atOrBelow}
+use Rattle.model.specs.Verdicts.{granted, row-number, row-driver, row-place, row-held, row-filled}
+use Rattle.model.specs.State.{Memory, levelOf, readLevelOf, marked}
+use Rattle.model.specs.Events.{unless, read, write, move, delete}
 use Rattle.decisions.specs.declared.Decision.{Decision}
+use Rattle.decisions.specs.Facts.{writes, bothWrite}
 use Rattle.decisions.specs.Decisions.{judged, readDecision, writeDecision, moveDecision, deleteDecision}
 
 -- ---- tests that the code makes in a function of their own
-
--- the task e has write access to x; past the table there is none
-unfoldable pub writes : List ℕ → ℕ → ℕ → Bool
-writes ws e x = ltb e numbers && cell rowSize ws (writeRow e) x
-
-unfoldable pub bothWrite : List ℕ → ℕ → ℕ → ℕ → Bool
-bothWrite ws e d k = writes ws e k && writes ws d k
 
 unfoldable pub allWrite : List ℕ → ℕ → ℕ → ℕ → ℕ → Bool
 allWrite ws e d f t = writes ws e f && writes ws e t && writes ws d f && writes ws d t
@@ -34,10 +27,6 @@ mayMove bs x f t = not (eqb x f) && not (eqb x t) && not (eqb f t) && eqb (conta
 unfoldable pub moveNamed : List ℕ → ℕ → ℕ → ℕ → ℕ → ℕ → Bool
 moveNamed bs e d x f t = isTask bs e && isTask bs d && isObject bs x && isObject bs f && isObject bs t
 
--- two tasks and a number that may be given out
-unfoldable pub areNew : List ℕ → ℕ → ℕ → ℕ → Bool
-areNew bs c d n = isTask bs c && isTask bs d && ltb n numbers
-
 unfoldable pub isEmpty : List ℕ → ℕ → Bool
 isEmpty bs x = not (anyB numbers (λ y. isObject bs y && eqb (container bs y) x))
 
@@ -47,22 +36,11 @@ isEmpty bs x = not (anyB numbers (λ y. isObject bs y && eqb (container bs y) x)
 unfoldable pub driven : List ℕ → Bool → ℕ → ℕ → ℕ → ℕ
 driven bs named d x rest = unless named row-number (unless (eqb (driver bs x) d) row-driver rest)
 
--- the numbers, and a new number
-unfoldable pub given : List ℕ → Bool → ℕ → ℕ → ℕ
-given bs named n rest = unless named row-number (unless (not (not (eqb (kind bs n) 0))) row-taken rest)
-
--- a level that is given is in the order, and the rule
-unfoldable pub scaled : Order → ℕ → Bool → ℕ
-scaled o l rule = unless (inOrder o l) row-scale (unless rule row-rule granted)
-
 -- the row below the rule, of a container that has to be empty, where no row above it applies
 unfoldable pub unlessFilled : Bool → ℕ → ℕ
 unlessFilled empty v = unless (not (eqb v granted) || empty) row-filled v
 
--- ---- the rows of create, move and delete but for the level tests
-
-unfoldable pub createRows : List ℕ → List ℕ → ℕ → ℕ → ℕ → ℕ → ℕ → ℕ
-createRows bs ws c d n k rest = given bs (areNew bs c d n && isObject bs k) n (unless (bothWrite ws c d k) row-held rest)
+-- ---- the rows of move and delete but for the level tests
 
 unfoldable pub moveRows : List ℕ → List ℕ → ℕ → ℕ → ℕ → ℕ → ℕ → ℕ → ℕ
 moveRows bs ws e d x f t rest =
@@ -108,13 +86,3 @@ module _ (o : Order) (m : Memory) where
 
   abbrev pub deleteJudged : ℕ → ℕ → ℕ → ℕ → Decision
   deleteJudged e d x k = judged (delete o m e d x k) (deleteDecided e d x)
-
-  -- the flow from a marked image; the creator's flows where the driver is marked
-  abbrev pub executeJudged : ℕ → ℕ → ℕ → ℕ → ℕ → Decision
-  executeJudged c i n l r = record { verdict = verdictOf (execute o m c i n l r); first = marked m i; second = false }
-
-  abbrev pub createJudged : ℕ → ℕ → ℕ → ℕ → ℕ → Decision
-  createJudged c d n k l = record { verdict = verdictOf (create o m c d n k l); first = marked m d; second = marked m d }
-
-  abbrev pub rootJudged : ℕ → ℕ → ℕ → ℕ → Decision
-  rootJudged c d n l = record { verdict = verdictOf (createRoot o m c d n l); first = marked m d; second = marked m d }

@@ -4,17 +4,14 @@ ghost use mathlib.Core.List.{List, [], _∷_};
 ghost use Prim.Native.Nat.{ℕ, _<_};
 ghost use lib.ListN.{length};
 ghost use Rattle.model.specs.State.{memory};
-ghost use Rattle.model.specs.Effects.{flow-if, read-access, write-access, make-task, make-object, move-to, clear, effects};
+ghost use Rattle.model.specs.Effects.{flow-if, read-access, write-access, move-to, clear, effects};
 use decisions::Decision;
 use decisions::effects::add_access;
 use decisions::effects::record_both;
-use decisions::effects::record_first;
 use decisions::facts::READS;
 use decisions::facts::WRITES;
 use records::CONTAINER;
 use records::FREE;
-use records::OBJECT;
-use records::TASK;
 use records::set_field;
 use records::set_record;
 
@@ -32,49 +29,6 @@ pub fn write(words: &mut [u64], judged: Decision, e: u16, d: u16, x: u16)
 {
     add_access(words, WRITES, e, x);
     record_both(words, judged, e, x, e, d);
-}
-
-pub fn execute(
-    bytes: &mut [u8],
-    words: &mut [u64],
-    judged: Decision,
-    i: u16,
-    n: u16,
-    l: u16,
-    r: u16,
-)
-    requires { ⌜ (l < 16) × (r < 16) ⌝ }
-    ensures { λ _. ⌜ memory (now (bytes .exit)) (now (words .exit)) ≡ effects (make-task n l r ∷ flow-if (judged .first) i n ∷ []) (memory (now (bytes .entry)) (now (words .entry))) ⌝ }
-{
-    set_record(bytes, n, TASK, l as u8, r as u8, 0, 0, 0);
-    record_first(words, judged, i, n);
-}
-
-// In the container k, which is the root sign for a root.
-pub fn create(
-    bytes: &mut [u8],
-    words: &mut [u64],
-    judged: Decision,
-    c: u16,
-    d: u16,
-    n: u16,
-    k: u16,
-    l: u16,
-)
-    requires { ⌜ (d < 128) × (k < 256) × (l < 16) ⌝ }
-    ensures { λ _. ⌜ memory (now (bytes .exit)) (now (words .exit)) ≡ effects (make-object n l d k (judged .first) ∷ flow-if (judged .first) c n ∷ flow-if (judged .second) c d ∷ []) (memory (now (bytes .entry)) (now (words .entry))) ⌝ }
-{
-    set_record(
-        bytes,
-        n,
-        OBJECT,
-        l as u8,
-        0,
-        d as u8,
-        k as u8,
-        judged.first as u8,
-    );
-    record_both(words, judged, c, n, c, d);
 }
 
 pub fn move_object(

@@ -1,5 +1,5 @@
-use Rattle.decisions.specs.Decisions.{apart}
 use borrow.Author.Needs.{needs}
+use Rattle.decisions.specs.Decisions.{apart}
 use Rattle.decisions.proofs.apart.Statement.{statement}
 use Rattle.decisions.proofs.apart.Tie as tie
 

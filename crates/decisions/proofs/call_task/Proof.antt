@@ -1,5 +1,5 @@
-use Rattle.decisions.specs.Decisions.{callDecision}
 use borrow.Author.Needs.{needs}
+use Rattle.decisions.specs.Decisions.{callDecision}
 use Rattle.decisions.proofs.call_task.Statement.{statement}
 use Rattle.decisions.proofs.call_task.Tie as tie
 

@@ -1,5 +1,5 @@
-use Rattle.decisions.specs.Decisions.{deleteDecision}
 use borrow.Author.Needs.{needs}
+use Rattle.decisions.specs.Decisions.{deleteDecision}
 use Rattle.decisions.proofs.delete.Statement.{statement}
 use Rattle.decisions.proofs.delete.Tie as tie
 

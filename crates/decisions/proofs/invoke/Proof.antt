@@ -1,5 +1,5 @@
-use Rattle.decisions.specs.Decisions.{invokeDecision}
 use borrow.Author.Needs.{needs}
+use Rattle.decisions.specs.Decisions.{invokeDecision}
 use Rattle.decisions.proofs.invoke.Statement.{statement}
 use Rattle.decisions.proofs.invoke.Tie as tie
 

@@ -1,5 +1,5 @@
-use Rattle.decisions.specs.Decisions.{moveDecision}
 use borrow.Author.Needs.{needs}
+use Rattle.decisions.specs.Decisions.{moveDecision}
 use Rattle.decisions.proofs.move_object.Statement.{statement}
 use Rattle.decisions.proofs.move_object.Tie as tie
 

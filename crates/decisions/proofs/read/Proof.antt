@@ -1,5 +1,5 @@
-use Rattle.decisions.specs.Decisions.{readDecision}
 use borrow.Author.Needs.{needs}
+use Rattle.decisions.specs.Decisions.{readDecision}
 use Rattle.decisions.proofs.read.Statement.{statement}
 use Rattle.decisions.proofs.read.Tie as tie
 

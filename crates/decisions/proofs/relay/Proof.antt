@@ -1,5 +1,5 @@
-use Rattle.decisions.specs.Decisions.{relayDecision}
 use borrow.Author.Needs.{needs}
+use Rattle.decisions.specs.Decisions.{relayDecision}
 use Rattle.decisions.proofs.relay.Statement.{statement}
 use Rattle.decisions.proofs.relay.Tie as tie
 

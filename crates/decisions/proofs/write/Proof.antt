@@ -1,5 +1,5 @@
-use Rattle.decisions.specs.Decisions.{writeDecision}
 use borrow.Author.Needs.{needs}
+use Rattle.decisions.specs.Decisions.{writeDecision}
 use Rattle.decisions.proofs.write.Statement.{statement}
 use Rattle.decisions.proofs.write.Tie as tie
 

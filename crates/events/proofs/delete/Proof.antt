@@ -1,14 +1,18 @@
+use borrow.Author.Needs.{needs}
 use Rattle.decisions.specs.DecisionLaws.{done, refused}
 use Rattle.events.specs.EventLaws.{delete-told, delete-fits}
-use borrow.Author.Needs.{needs}
 use Rattle.events.proofs.delete.Statement.{statement}
 use Rattle.events.proofs.delete.Tie as tie
 
 delete-requires-2 : tie.Need-delete-requires-2
-delete-requires-2 c κs = (c .before .before .before .before .before .before .before .before .before .pre .1, delete-fits _ _ (c .before .before .before .before .before .before .before .before .before .pre .0) _ _ _ _ (c .before .before .before .before .delete .ensures) (search))
+delete-requires-2 c κs =
+    let pre = c .before .before .before .before .before .before .before .before .before .pre in
+    (pre .1, delete-fits _ _ (pre .0) _ _ _ _ (c .before .before .before .before .delete .ensures) (search))
 
 returns : tie.Need-returns
-returns c = done (delete-told _ _ _ _ _ _) (c .before .before .before .before .before .before .before .before .before .delete .ensures) (search) (c .before .before .before .before .delete2 .ensures)
+returns c =
+    let judged = c .before .before .before .before .before .before .before .before .before .delete .ensures in
+    done (delete-told _ _ _ _ _ _) judged (search) (c .before .before .before .before .delete2 .ensures)
 
 returns-2 : tie.Need-returns-2
 returns-2 c = refused (delete-told _ _ _ _ _ _) (c .before .before .delete .ensures) (search)

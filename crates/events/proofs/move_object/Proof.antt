@@ -1,14 +1,18 @@
+use borrow.Author.Needs.{needs}
 use Rattle.decisions.specs.DecisionLaws.{done, refused}
 use Rattle.events.specs.EventLaws.{move-told, move-fits}
-use borrow.Author.Needs.{needs}
 use Rattle.events.proofs.move_object.Statement.{statement}
 use Rattle.events.proofs.move_object.Tie as tie
 
 move-object-requires-2 : tie.Need-move-object-requires-2
-move-object-requires-2 c κs = move-fits _ _ (c .before .before .before .before .before .before .before .before .before .pre .0) _ _ _ _ _ (c .before .before .before .before .move-object .ensures) (search)
+move-object-requires-2 c κs =
+    let pre = c .before .before .before .before .before .before .before .before .before .pre in
+    move-fits _ _ (pre .0) _ _ _ _ _ (c .before .before .before .before .move-object .ensures) (search)
 
 returns : tie.Need-returns
-returns c = done (move-told _ _ _ _ _ _ _) (c .before .before .before .before .before .before .before .before .before .move-object .ensures) (search) (c .before .before .before .before .move-object2 .ensures)
+returns c =
+    let judged = c .before .before .before .before .before .before .before .before .before .move-object .ensures in
+    done (move-told _ _ _ _ _ _ _) judged (search) (c .before .before .before .before .move-object2 .ensures)
 
 returns-2 : tie.Need-returns-2
 returns-2 c = refused (move-told _ _ _ _ _ _ _) (c .before .before .move-object .ensures) (search)

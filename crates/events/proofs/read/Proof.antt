@@ -1,15 +1,19 @@
 use mathlib.Core.List.{[]}
+use borrow.Author.Needs.{needs}
 use Rattle.decisions.specs.DecisionLaws.{done, refused}
 use Rattle.events.specs.EventLaws.{read-told, read-fits}
-use borrow.Author.Needs.{needs}
 use Rattle.events.proofs.read.Statement.{statement}
 use Rattle.events.proofs.read.Tie as tie
 
 read-requires-2 : tie.Need-read-requires-2
-read-requires-2 c κs = read-fits _ _ (c .before .before .before .before .before .before .pre .0) _ _ _ (c .before .before .before .read .ensures []) (search)
+read-requires-2 c κs =
+    let pre = c .before .before .before .before .before .before .pre in
+    read-fits _ _ (pre .0) _ _ _ (c .before .before .before .read .ensures []) (search)
 
 returns : tie.Need-returns
-returns c = done (read-told _ _ _ _ _) (c .before .before .before .before .before .before .read .ensures _) (search) (c .before .before .read2 .ensures _)
+returns c =
+    let judged = c .before .before .before .before .before .before .read .ensures in
+    done (read-told _ _ _ _ _) (judged _) (search) (c .before .before .read2 .ensures _)
 
 returns-2 : tie.Need-returns-2
 returns-2 c = refused (read-told _ _ _ _ _) (c .before .before .read .ensures _) (search)

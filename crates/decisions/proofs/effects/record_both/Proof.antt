@@ -1,5 +1,5 @@
-use Rattle.model.specs.Effects.{effect, effects}
 use borrow.Author.Needs.{needs}
+use Rattle.model.specs.Effects.{effect, effects}
 use Rattle.decisions.proofs.effects.record_both.Statement.{statement}
 use Rattle.decisions.proofs.effects.record_both.Tie as tie
 

@@ -1,7 +1,7 @@
 use mathlib.Core.Path.{refl}
-use Rattle.model.specs.Effects.{effect}
-use Rattle.events.specs.EventLaws.{bytes-first}
 use borrow.Author.Needs.{needs}
+use Rattle.model.specs.Effects.{effect}
+use Rattle.decisions.specs.DecisionLaws.{bytes-first}
 use Rattle.events.proofs.effects.move_object.Statement.{statement}
 use Rattle.events.proofs.effects.move_object.Tie as tie
 

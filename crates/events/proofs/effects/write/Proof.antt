@@ -1,5 +1,5 @@
-use Rattle.model.specs.Effects.{effect, effects}
 use borrow.Author.Needs.{needs}
+use Rattle.model.specs.Effects.{effect, effects}
 use Rattle.events.proofs.effects.write.Statement.{statement}
 use Rattle.events.proofs.effects.write.Tie as tie
 

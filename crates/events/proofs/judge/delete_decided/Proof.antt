@@ -1,6 +1,6 @@
+use borrow.Author.Needs.{needs}
 use Rattle.model.specs.State.{marked}
 use Rattle.events.specs.Judged.{deleteDecided}
-use borrow.Author.Needs.{needs}
 use Rattle.events.proofs.judge.delete_decided.Statement.{statement}
 use Rattle.events.proofs.judge.delete_decided.Tie as tie
 

@@ -1,8 +1,8 @@
 -- Before turn y none of the first y numbers is an object in x.
 -- Assumes nothing.
 use mathlib.Core.Path.{_≡_, sym, ap, _∙_}
-use mathlib.Core.Bool.{Bool, false, not, _&&_, _||_}
-use Prim.Native.Nat.{ℕ, _≤_, _-_}
+use mathlib.Core.Bool.{false, not, _&&_}
+use Prim.Native.Nat.{_≤_, _-_}
 use native.Mathlib.Omega.{arith}
 use lib.Dec.{eqb}
 use Rattle.bits.specs.All.{anyB}
@@ -30,7 +30,9 @@ loop-again c = (omega arith, any-more _ _ ∙ rw (c .before .before .before .bef
 
 returns-2 : tie.Need-returns-2 Inv-loop μ-loop
 unfolding isEmpty
-returns-2 c = let e : c .before .loop .y ≡ 128 = omega arith in sym (ap not (rw e at (c .before .loop .inv .1)))
+returns-2 c =
+    let e : c .before .loop .y ≡ 128 = omega arith in
+    sym (ap not (rw e at (c .before .loop .inv .1)))
 
 pub is-empty-spec : {M : Type 1} → statement M
 is-empty-spec =

@@ -1,6 +1,6 @@
+use borrow.Author.Needs.{needs}
 use Rattle.model.specs.State.{marked}
 use Rattle.events.specs.Judged.{moveDecided}
-use borrow.Author.Needs.{needs}
 use Rattle.events.proofs.judge.move_decided.Statement.{statement}
 use Rattle.events.proofs.judge.move_decided.Tie as tie
 

@@ -1,7 +1,7 @@
-use Rattle.model.specs.Events.{unless}
 use borrow.Author.Tests.{eq-eqb, ne-eqb}
-use Rattle.events.specs.Judged.{unlessFilled}
 use borrow.Author.Needs.{needs}
+use Rattle.model.specs.Events.{unless}
+use Rattle.events.specs.Judged.{unlessFilled}
 use Rattle.events.proofs.judge.unless_filled.Statement.{statement}
 use Rattle.events.proofs.judge.unless_filled.Tie as tie
 

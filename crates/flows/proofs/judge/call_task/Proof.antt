@@ -1,7 +1,7 @@
-use Rattle.flows.specs.Judged.{callDecided}
-use Rattle.model.specs.State.{task, marked}
-use Rattle.flows.specs.FlowLaws.{call-verdict}
 use borrow.Author.Needs.{needs}
+use Rattle.model.specs.State.{task, marked}
+use Rattle.flows.specs.Judged.{callDecided}
+use Rattle.flows.specs.FlowLaws.{call-verdict}
 use Rattle.flows.proofs.judge.call_task.Statement.{statement}
 use Rattle.flows.proofs.judge.call_task.Tie as tie
 

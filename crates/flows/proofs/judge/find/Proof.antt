@@ -1,6 +1,6 @@
+use borrow.Author.Needs.{needs}
 use Rattle.model.specs.State.{task, inUse, hasFlow}
 use Rattle.flows.specs.FlowLaws.{find-verdict}
-use borrow.Author.Needs.{needs}
 use Rattle.flows.proofs.judge.find.Statement.{statement}
 use Rattle.flows.proofs.judge.find.Tie as tie
 

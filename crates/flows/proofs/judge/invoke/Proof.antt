@@ -1,7 +1,7 @@
-use Rattle.flows.specs.Judged.{invokeDecided}
-use Rattle.model.specs.State.{task, marked}
-use Rattle.flows.specs.FlowLaws.{invoke-verdict}
 use borrow.Author.Needs.{needs}
+use Rattle.model.specs.State.{task, marked}
+use Rattle.flows.specs.Judged.{invokeDecided}
+use Rattle.flows.specs.FlowLaws.{invoke-verdict}
 use Rattle.flows.proofs.judge.invoke.Statement.{statement}
 use Rattle.flows.proofs.judge.invoke.Tie as tie
 

@@ -1,13 +1,15 @@
-use Rattle.decisions.specs.DecisionLaws.{judged-is}
-use Rattle.model.specs.State.{task, object, inUse, hasFlow, hasRead}
-use Rattle.flows.specs.FlowLaws.{post-verdict}
 use borrow.Author.Needs.{needs}
+use Rattle.model.specs.State.{task, object, inUse, hasFlow, hasRead}
+use Rattle.decisions.specs.DecisionLaws.{judged-is}
+use Rattle.flows.specs.FlowLaws.{post-verdict}
 use Rattle.flows.proofs.judge.post.Statement.{statement}
 use Rattle.flows.proofs.judge.post.Tie as tie
 
 returns : tie.Need-returns
 unfolding task object inUse hasFlow hasRead
-returns c = let l = c .before .before .before .before .before .before .before .before .before .before .before .pre in judged-is _ (c .before .before .before .before .before .before .before .before .relay .ensures _) (λ v. rw post-verdict (cc))
+returns c =
+    let l = c .before .before .before .before .before .before .before .before .before .before .before .pre in
+    judged-is _ (c .before .before .before .before .before .before .before .before .relay .ensures _) (λ v. rw post-verdict (cc))
 
 pub post-spec : {M : Type 1} → statement M
 post-spec =

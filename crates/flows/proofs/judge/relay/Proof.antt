@@ -1,6 +1,6 @@
-use Rattle.flows.specs.Judged.{relayDecided}
-use Rattle.model.specs.State.{marked}
 use borrow.Author.Needs.{needs}
+use Rattle.model.specs.State.{marked}
+use Rattle.flows.specs.Judged.{relayDecided}
 use Rattle.flows.proofs.judge.relay.Statement.{statement}
 use Rattle.flows.proofs.judge.relay.Tie as tie
 

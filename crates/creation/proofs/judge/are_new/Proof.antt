@@ -1,0 +1,11 @@
+use borrow.Author.Needs.{needs}
+use Rattle.creation.specs.Judged.{areNew}
+use Rattle.creation.proofs.judge.are_new.Statement.{statement}
+use Rattle.creation.proofs.judge.are_new.Tie as tie
+
+returns : tie.Need-returns
+unfolding areNew
+returns c = cc
+
+pub are-new-spec : {M : Type 1} → statement M
+are-new-spec = tie.close (tie.spec (λ c κs. search needs) (λ c κs. search needs) returns)
