@@ -2,7 +2,7 @@
 -- Assumes nothing.
 use mathlib.Core.Path.{_≡_, refl, sym, ap, _∙_}
 use mathlib.Core.Logic.{_⊎_, inl, inr, ⊎-elim}
-use mathlib.Core.Bool.{Bool, true, false, not, cond, _&&_, _||_, true≢false, or-assoc}
+use mathlib.Core.Bool.{Bool, true, false, _&&_, _||_, true≢false, or-assoc}
 use mathlib.Core.List.{List}
 use Prim.Native.Nat.{ℕ, _+_, _*_, _/_, _%_, _≤_, _<_}
 use native.Mathlib.Omega.{arith}
@@ -11,7 +11,7 @@ use lib.ListN.{length, getD, set}
 use lib.Seq.{ext-getD}
 use borrow.Author.Tests.{eqb-true, eqb-false, eq-eqb, ne-eqb, not-false, leb-true, le-leb, lt-leb}
 use Rattle.bits.specs.All.{one}
-use Rattle.bits.specs.AllLaws.{either, both-ways, and-l, and-r, and-i, and-true, and-false, or-false}
+use Rattle.bits.specs.AllLaws.{either, both-ways, and-l, and-r, and-true, and-false, or-false}
 use Rattle.records.specs.Records.{numbers, field, setField}
 use Rattle.records.specs.RecordLaws.{field-same, field-else, length-field}
 use Rattle.model.specs.State.{Memory, memory, marked}
@@ -34,10 +34,6 @@ of-one : (m : Memory) (x : ℕ) (b : Bool) → field (m .bytes) x 5 ≡ one b �
 unfolding marked
 of-one m x true e = rw e
 of-one m x false e = rw e
-
-pub marks-marked : {m n : Memory} {q : ℕ → Bool} → Marks m q n → (x : ℕ) → x < numbers → marked n x ≡ (marked m x || q x)
-marks-marked {m} {n} {q} g x l =
-    ⊎-elim (λ e. kept-marked (g .more) x e ∙ sym (rw e)) (λ e. of-one n x (q x) (g .new x l e) ∙ sym (rw e)) (either (marked m x))
 
 -- ---- it is settled
 

@@ -1,18 +1,18 @@
 -- What the rows of the drivers' objects hold.
 -- Assumes nothing.
-use mathlib.Core.Path.{_≡_, refl, sym, ap, ap₂, _∙_}
-use mathlib.Core.Logic.{_⊎_, inl, inr, ⊎-elim}
+use mathlib.Core.Path.{_≡_, refl, sym, ap, _∙_}
+use mathlib.Core.Logic.{⊎-elim}
 use mathlib.Core.Bool.{Bool, true, false, cond, _&&_, _||_, or-assoc, and-eq-true-iff}
 use mathlib.Core.List.{List}
-use Prim.Native.Nat.{ℕ, zero, suc, _+_, _*_, _≤_, _<_}
+use Prim.Native.Nat.{ℕ, zero, suc, _≤_, _<_}
 use native.Mathlib.Omega.{arith}
 use lib.Dec.{eqb}
-use lib.ListN.{length, replicate, length-replicate}
-use borrow.Author.Tests.{eqb-true, eq-eqb, ne-eqb}
+use lib.ListN.{length}
+use borrow.Author.Tests.{eqb-true, eq-eqb}
 use Rattle.bits.specs.All.{anyB, upTo}
-use Rattle.bits.specs.AllLaws.{either, both-ways, and-i, or-false, or-cases, or-l, or-r, any-i, any-at, any-none}
+use Rattle.bits.specs.AllLaws.{both-ways, and-i, or-false, or-cases, or-l, or-r, any-i, any-at}
 use Rattle.rows.specs.Rows.{cell, addCell}
-use Rattle.rows.specs.RowLaws.{cell-add, cell-zeros, length-add}
+use Rattle.rows.specs.RowLaws.{cell-add, length-add}
 use Rattle.levels.specs.declared.Order.{Order}
 use Rattle.records.specs.Records.{numbers, driver, isObject, sound}
 use Rattle.records.specs.RecordLaws.{object-facts, in-use}

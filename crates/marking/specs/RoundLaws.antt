@@ -1,19 +1,17 @@
 -- A round by sets: only the sources of the last round feed something new.
 -- Assumes nothing.
-use mathlib.Core.Path.{_≡_, refl, sym, ap, ap₂, _∙_}
-use mathlib.Core.Logic.{_⊎_, inl, inr, ⊎-elim}
+use mathlib.Core.Path.{_≡_, refl, sym, ap, _∙_}
+use mathlib.Core.Logic.{⊎-elim}
 use mathlib.Core.Bool.{Bool, true, false, not, _&&_, _||_, and-eq-true-iff, true≢false}
 use mathlib.Core.List.{List}
-use Prim.Native.Nat.{ℕ, _+_, _*_, _≤_, _<_}
-use native.Mathlib.Omega.{arith}
-use lib.Dec.{eqb}
+use Prim.Native.Nat.{ℕ, _<_}
 use borrow.Author.Tests.{eqb-true, eq-eqb, not-true}
 use Rattle.bits.specs.All.{anyB}
-use Rattle.bits.specs.AllLaws.{either, both-ways, and-i, and-l, and-r, and-true, and-false, or-cases, or-l, or-r, any-i, any-at}
+use Rattle.bits.specs.AllLaws.{either, both-ways, and-i, and-l, and-true, and-false, or-cases, or-l, or-r, any-i, any-at}
 use Rattle.rows.specs.Rows.{cell}
 use Rattle.records.specs.Records.{numbers}
 use Rattle.model.specs.State.{Memory, inUse, object, driverOf, marked, hasFlow}
-use Rattle.model.specs.Effects.{markWhere, objectOf}
+use Rattle.model.specs.Effects.{objectOf}
 use Rattle.model.specs.Spread.{reached, driven, round}
 use Rattle.model.specs.StateLaws.{marked-below, object-used}
 use Rattle.model.specs.MarkLaws.{MoreMarks, kept-inUse, kept-object, kept-driver, kept-flow, kept-marked, where-more, where-length}

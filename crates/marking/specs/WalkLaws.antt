@@ -1,6 +1,6 @@
 -- A walk through the ones of a word, lowest first: `w & (w - 1)` is what is left of it.
 -- Assumes nothing.
-use mathlib.Core.Path.{_≡_, refl, sym, ap, ap₂, _∙_}
+use mathlib.Core.Path.{_≡_, sym, ap, _∙_}
 use mathlib.Core.Logic.{_⊎_, inl, inr, ⊎-elim}
 use mathlib.Core.Bool.{Bool, true, false, not, cond, _&&_, _||_, or-assoc, and-or-distrib-right}
 use mathlib.Core.List.{List}
@@ -13,7 +13,6 @@ use lib.Dec.{leb, eqb, ltb}
 use borrow.Author.Tests.{leb-true, leb-false, le-leb, lt-leb, eqb-true, eqb-false, eq-eqb, ne-eqb, ltb-true, ltb-false}
 use Rattle.bits.specs.Bit.{bit}
 use Rattle.bits.specs.BitLaws.{bit-zero, bit-past, bit-rest, trailing-set, trailing-lt}
-use Rattle.bits.specs.All.{anyB}
 use Rattle.bits.specs.AllLaws.{either, and-false, and-true, or-false, any-ext, any-or, any-one, any-false}
 use Rattle.rows.specs.Rows.{cell}
 use Rattle.marking.specs.declared.sets.Set.{Set}

@@ -22,11 +22,19 @@ ghost use Rattle.model.specs.Monitor as monitor;
 ghost use Rattle.model.specs.Monitor.{noReport, firstFrom, nextMarked};
 ghost use Rattle.marking.specs.ReportLaws.{reportOf};
 
-// Where the marks stand in a record.
+// The bytes of a record, and where the kind, the driver and the marks stand in it.
+const RECORD_SIZE: usize = 8;
+
+const KIND: usize = 0;
+
+const DRIVER: usize = 3;
+
 const MARKS: usize = 5;
 
-// How many numbers there are.
+// How many numbers, and so records, there are.
 const NUMBERS: u16 = 128;
+
+const RECORDS: usize = 128;
 
 // The words of flows and accesses.
 const WORDS: usize = 768;

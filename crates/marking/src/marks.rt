@@ -1,4 +1,9 @@
 // The marks of records.
+use crate::DRIVER;
+use crate::MARKS;
+use crate::NUMBERS;
+use crate::RECORD_SIZE;
+use crate::RECORDS;
 use crate::sets::Set;
 ghost use mathlib.Core.Path.{_≡_};
 ghost use mathlib.Core.Bool.{_&&_};
@@ -10,16 +15,6 @@ ghost use Rattle.records.specs.Records.{field};
 ghost use Rattle.model.specs.State.{memory, marked, hasFlow};
 ghost use Rattle.model.specs.Effects.{markWhere, objectOf, effect, mark-outside, mark-thing};
 ghost use Rattle.marking.specs.Sets.{has, inWord};
-
-const RECORD_SIZE: usize = 8;
-
-// Where the driver and the marks stand in a record.
-const DRIVER: usize = 3;
-
-const MARKS: usize = 5;
-
-// How many numbers there are.
-const NUMBERS: usize = 128;
 
 // The numbers of a word are marked. A mark that is there stays as it is.
 fn mark_word(bytes: &mut [u8], word: u64, first: usize)
@@ -51,7 +46,10 @@ fn is_object_of(bytes: &[u8], driver: u16, x: usize) -> bool
     ensures { λ r. ⌜ r ≡ objectOf (memory (now (bytes .entry)) []) driver x ⌝ }
 {
     let at = RECORD_SIZE * x;
-    (bytes[at] == records::OBJECT) & (bytes[at + DRIVER] as u16 == driver)
+    if bytes[at] != records::OBJECT {
+        return false;
+    }
+    bytes[at + DRIVER] as u16 == driver
 }
 
 // The objects of a driver are marked.
@@ -60,7 +58,7 @@ pub fn mark_objects(bytes: &mut [u8], driver: u16)
     ensures { λ _. ⌜ ((ws : List ℕ) → memory (now (bytes .exit)) ws ≡ markWhere (objectOf (memory (now (bytes .entry)) ws) driver) (memory (now (bytes .entry)) ws)) ⌝ }
 {
     let mut x = 0;
-    while x < NUMBERS {
+    while x < RECORDS {
         if is_object_of(bytes, driver, x) & (bytes[RECORD_SIZE * x + MARKS] == 0) {
             bytes[RECORD_SIZE * x + MARKS] = 1;
         }
@@ -98,7 +96,7 @@ pub fn is_fed(bytes: &[u8], words: &[u64], x: u16) -> bool
     ensures { λ r. ⌜ r ≡ anyB 128 (λ y. marked (memory (now (bytes .entry)) (now (words .entry))) y && hasFlow (memory (now (bytes .entry)) (now (words .entry))) y x) ⌝ }
 {
     let mut y: u16 = 0;
-    while y < 128 {
+    while y < NUMBERS {
         if (bytes[RECORD_SIZE * (y as usize) + MARKS] != 0) & rows::has(words, y, x) {
             return true;
         }

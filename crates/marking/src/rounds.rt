@@ -1,4 +1,9 @@
 // The rounds of a spread, on sets.
+use crate::DRIVER;
+use crate::KIND;
+use crate::MARKS;
+use crate::NUMBERS;
+use crate::RECORD_SIZE;
 use crate::sets;
 use crate::sets::Set;
 ghost use mathlib.Core.Path.{_≡_};
@@ -7,18 +12,6 @@ ghost use lib.ListN.{length};
 ghost use Rattle.model.specs.State.{memory};
 ghost use Rattle.marking.specs.RoundLaws.{Table};
 ghost use Rattle.marking.specs.Rounds.{ownRow, ownRows, roundSet, spreadSets};
-
-const RECORD_SIZE: usize = 8;
-
-// Where the kind, the driver and the marks stand in a record.
-const KIND: usize = 0;
-
-const DRIVER: usize = 3;
-
-const MARKS: usize = 5;
-
-// How many numbers there are; the row of this number holds all that drive something.
-const NUMBERS: u16 = 128;
 
 // An object is put into the row of its driver, and its driver into the last row.
 fn own_row(bytes: &[u8], owned: &mut [u64], x: u16)

@@ -1,4 +1,5 @@
 // Sets of numbers, a bit for each, in two words.
+use crate::RECORD_SIZE;
 ghost use mathlib.Core.Path.{_≡_};
 ghost use mathlib.Core.Bool.{not, _&&_, _||_};
 ghost use Prim.Native.Nat.{_+_, _≤_, _<_};
@@ -14,8 +15,6 @@ pub struct Set {
     pub low: u64,
     pub high: u64,
 }
-
-const RECORD_SIZE: usize = 8;
 
 // The word of 64 numbers, from the first on: whose byte f is not zero.
 fn word_with(bytes: &[u8], first: usize, f: usize) -> u64

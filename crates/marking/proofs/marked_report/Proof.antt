@@ -1,7 +1,4 @@
-use mathlib.Core.Path.{sym, ap, _∙_}
-use mathlib.Core.List.{List}
 use native.Mathlib.Omega.{arith}
-use Prim.Native.Nat.{ℕ}
 use lib.Count.{ones-le}
 use borrow.Author.Needs.{needs}
 use Rattle.model.specs.State.{memory, marked}

@@ -1,8 +1,8 @@
-use mathlib.Core.Path.{_≡_, refl, sym, _∙_}
-use mathlib.Core.Bool.{true, false, and-eq-true-iff}
+use mathlib.Core.Path.{refl, sym, _∙_}
+use mathlib.Core.Bool.{and-eq-true-iff}
 use borrow.Author.Needs.{needs}
 use borrow.Author.Tests.{eqb-true, not-true, not-false}
-use Rattle.model.specs.State.{memory, inUse, marked}
+use Rattle.model.specs.State.{memory, marked}
 use Rattle.model.specs.StateLaws.{used-below}
 use Rattle.model.specs.Effects.{effects}
 use Rattle.model.specs.Events.{step}

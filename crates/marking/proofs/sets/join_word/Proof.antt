@@ -1,15 +1,14 @@
 -- What is joined and what is left to join make the same at every turn.
 -- Assumes nothing.
 use mathlib.Core.Path.{_≡_, refl, sym, ap, _∙_}
-use mathlib.Core.Bool.{Bool, _||_, or-assoc}
-use Prim.Native.Nat.{ℕ, _+_, _^_, _<_}
+use mathlib.Core.Bool.{Bool, _||_}
+use Prim.Native.Nat.{ℕ, _^_, _<_}
 use native.Mathlib.Omega.{arith}
 use lib.Bits.{or-lt}
-use lib.Count.{trailingZeros}
 use borrow.Author.Needs.{needs}
 use Rattle.bits.specs.BitLaws.{trailing-lt}
 use Rattle.bits.specs.AllLaws.{or-false}
-use Rattle.marking.specs.Sets.{has, setOf, inWord, joined}
+use Rattle.marking.specs.Sets.{has, inWord, joined}
 use Rattle.marking.specs.SetLaws.{Fits, pair, set-is}
 use Rattle.marking.specs.WalkLaws.{joined-next, joined-end, rest-less}
 use Rattle.marking.proofs.sets.join_word.Statement.{statement}
