@@ -1,12 +1,13 @@
 pub mod Sets
 pub mod SetLaws
+pub mod WalkLaws
+pub mod Reports
+pub mod ReportLaws
 pub mod FirstLaws
 pub mod MarksLaws
-pub mod WalkLaws
 pub mod EffectLaws
-pub mod ReportLaws
-pub mod RoundLaws
 pub mod Rounds
-pub mod OwnedLaws
 pub mod RoundSetLaws
+pub mod RoundLaws
+pub mod OwnedLaws
 pub mod SpreadingLaws

@@ -16,7 +16,7 @@ use Rattle.records.specs.Records.{numbers, field, setField}
 use Rattle.records.specs.RecordLaws.{field-same, field-else, length-field}
 use Rattle.model.specs.State.{Memory, memory, marked}
 use Rattle.model.specs.Effects.{markWhere, objectOf}
-use Rattle.model.specs.MarkLaws.{MoreMarks, kept-marked, kept-object, kept-driver, more-then, more-none, where-more, where-length, where-new, where-not}
+use Rattle.model.specs.MarkLaws.{MoreMarks, kept-object, kept-driver, more-then, more-none, where-more, where-length, where-new, where-not}
 use Rattle.model.specs.SpreadLaws.{Sized}
 
 -- n is m with a mark for each unmarked number that passes

@@ -18,8 +18,7 @@ use Rattle.records.specs.Records.{numbers, driver, isObject, sound}
 use Rattle.records.specs.RecordLaws.{object-facts, in-use}
 use Rattle.model.specs.State.{memory, object}
 use Rattle.model.specs.Effects.{objectOf}
-use Rattle.marking.specs.Rounds.{ownRow, ownRows}
-use Rattle.marking.specs.RoundLaws.{Table}
+use Rattle.marking.specs.Rounds.{Table, ownRow, ownRows}
 
 module _ (bs : List ℕ) (below : (x : ℕ) → isObject bs x ≡ true → driver bs x < numbers) where
   -- the number i puts y into row d

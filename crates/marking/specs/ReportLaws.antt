@@ -1,10 +1,9 @@
--- The report of a memory that is not refused.
+-- Which report it is, and its words.
 -- Assumes nothing.
 use mathlib.Core.Path.{_≡_, ap, _∙_}
 use mathlib.Core.Bool.{Bool, true, false, _&&_}
 use Prim.Native.Nat.{ℕ, _+_, _*_}
 use native.Mathlib.Omega.{arith}
-use lib.Count.{ones}
 use lib.Dec.{eqb}
 use lib.ListN.{length}
 use borrow.Author.Tests.{eq-eqb, ne-eqb}
@@ -15,15 +14,12 @@ use Rattle.levels.specs.declared.Order.{Order}
 use Rattle.levels.specs.Order.{orderPasses}
 use Rattle.records.specs.Records.{sound}
 use Rattle.records.specs.RecordLaws.{long}
-use Rattle.model.specs.declared.Report.{Report}
-use Rattle.model.specs.Verdicts.{granted, row-state, row-order}
+use Rattle.model.specs.Verdicts.{row-state, row-order}
 use Rattle.model.specs.State.{Memory, lengthsFit, marked}
-use Rattle.model.specs.Monitor.{markedWord, markedWords, noReport, report}
+use Rattle.model.specs.Monitor.{markedWord, noReport, report}
 use Rattle.marking.specs.declared.sets.Set.{Set}
 use Rattle.marking.specs.Sets.{setOf}
-
-abbrev pub reportOf : Memory → Report
-reportOf m = record { words = markedWords m; ones = ones (markedWord m 0) + ones (markedWord m 1); verdict = granted }
+use Rattle.marking.specs.Reports.{reportOf}
 
 -- the words of the marked set
 word-ext : (p q : ℕ → Bool) → ((i : ℕ) → p i ≡ q i) → wordOf p ≡ wordOf q

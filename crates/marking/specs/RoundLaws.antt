@@ -17,13 +17,8 @@ use Rattle.model.specs.StateLaws.{marked-below, object-used}
 use Rattle.model.specs.MarkLaws.{MoreMarks, kept-inUse, kept-object, kept-driver, kept-flow, kept-marked, where-more, where-length}
 use Rattle.model.specs.SpreadLaws.{Sized, byFlows, more-round, marked-flows, marked-round, unmarked}
 use Rattle.marking.specs.Sets.{joined}
-use Rattle.marking.specs.Rounds.{byFlow, byDriver}
+use Rattle.marking.specs.Rounds.{Table, byFlow, byDriver}
 use Rattle.marking.specs.MarksLaws.{kept-objectOf}
-
--- rows of the objects of each driver, and in row 128 all that drive one
-pub record Table (m : Memory) (ws : List ℕ) : Type 0 where
-  pub owns : (d x : ℕ) → d < numbers → x < numbers → cell 2 ws d x ≡ objectOf m d x
-  pub drives : (d x : ℕ) → d < numbers → x < numbers → objectOf m d x ≡ true → cell 2 ws 128 d ≡ true
 
 -- whatever the other marked things feed or drive is marked
 pub record Sources (v : Memory) (q : ℕ → Bool) : Type 0 where

@@ -24,8 +24,8 @@ use Rattle.marking.specs.Sets.{has, setOf, joined}
 use Rattle.marking.specs.SetLaws.{in-set, set-ext}
 use Rattle.marking.specs.WalkLaws.{joined-ext}
 use Rattle.marking.specs.MarksLaws.{Marks, marks-none, marks-ext, marks-then, marks-where, marks-same, kept-objectOf}
-use Rattle.marking.specs.Rounds.{byFlow, byDriver, roundSet, spreadSets}
-use Rattle.marking.specs.RoundLaws.{Table, Sources, round-is, first-sources, next-sources}
+use Rattle.marking.specs.Rounds.{Table, byFlow, byDriver, roundSet, spreadSets}
+use Rattle.marking.specs.RoundLaws.{Sources, round-is, first-sources, next-sources}
 
 table-more : {m v : Memory} {ws : List ℕ} → MoreMarks m v → Table m ws → Table v ws
 table-more g t =

@@ -17,10 +17,10 @@ ghost use Rattle.records.specs.Records.{sound};
 ghost use Rattle.model.specs.State.{memory};
 ghost use Rattle.model.specs.Events as events;
 ghost use Rattle.model.specs.Events.{left, outcome, verdictOf};
-ghost use Rattle.model.specs.Spread as model;
+ghost use Rattle.model.specs.Spread as rounds;
 ghost use Rattle.model.specs.Monitor as monitor;
 ghost use Rattle.model.specs.Monitor.{noReport, firstFrom, nextMarked};
-ghost use Rattle.marking.specs.ReportLaws.{reportOf};
+ghost use Rattle.marking.specs.Reports.{reportOf};
 
 // The bytes of a record, and where the kind, the driver and the marks stand in it.
 const RECORD_SIZE: usize = 8;
@@ -123,6 +123,7 @@ pub fn mark(bytes: &mut [u8], words: &[u64], order: Order, task: u16) -> u8
     model::GRANTED
 }
 
+// The verdict of a step.
 fn step_verdict(bytes: &[u8], words: &[u64], x: u16) -> u8
     requires { ⌜ length (now bytes) ≡ 1024 ⌝ }
     ensures { λ r. ⌜ ((order : Order) → r ≡ verdictOf (events.step order (memory (now (bytes .entry)) (now (words .entry))) x)) ⌝ }
@@ -155,7 +156,7 @@ pub fn step(bytes: &mut [u8], words: &[u64], order: Order, x: u16) -> u8
 // Rounds of marking along the flows until one marks nothing; how many marked something.
 pub fn spread(bytes: &mut [u8], words: &[u64], order: Order) -> u8
     requires { ⌜ (length (now bytes) ≡ 1024) × (length (now words) ≡ 768) × (orderPasses order ≡ true) × (sound order (now bytes) ≡ true) ⌝ }
-    ensures { λ r. ⌜ left 0 r (now (bytes .exit)) (now (words .entry)) ≡ model.spread (memory (now (bytes .entry)) (now (words .entry))) ⌝ }
+    ensures { λ r. ⌜ left 0 r (now (bytes .exit)) (now (words .entry)) ≡ rounds.spread (memory (now (bytes .entry)) (now (words .entry))) ⌝ }
 {
     let mut owned = [0u64; 258];
     rounds::own_rows(bytes, &mut owned);

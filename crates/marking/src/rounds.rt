@@ -10,8 +10,7 @@ ghost use mathlib.Core.Path.{_≡_};
 ghost use Prim.Native.Nat.{_≤_, _<_};
 ghost use lib.ListN.{length};
 ghost use Rattle.model.specs.State.{memory};
-ghost use Rattle.marking.specs.RoundLaws.{Table};
-ghost use Rattle.marking.specs.Rounds.{ownRow, ownRows, roundSet, spreadSets};
+ghost use Rattle.marking.specs.Rounds.{Table, ownRow, ownRows, roundSet, spreadSets};
 
 // An object is put into the row of its driver, and its driver into the last row.
 fn own_row(bytes: &[u8], owned: &mut [u64], x: u16)
@@ -59,6 +58,7 @@ pub struct Spread {
     pub rounds: u8,
 }
 
+// The rounds go on until one marks nothing. What older sources feed or drive is marked by then, so only the things that the last round marked are sources of the next.
 pub fn spread_sets(bytes: &[u8], words: &[u64], owned: &[u64]) -> Spread
     requires { ⌜ (length (now bytes) ≡ 1024) × (length (now words) ≡ 768) × (length (now owned) ≡ 258) × Table (memory (now bytes) (now words)) (now owned) ⌝ }
     ensures { λ r. ⌜ r ≡ spreadSets (memory (now (bytes .entry)) (now (words .entry))) ⌝ }
