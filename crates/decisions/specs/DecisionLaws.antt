@@ -68,26 +68,25 @@ pub record Told (m : Memory) (e : Event) (j : Decision) (does : Decision → Lis
   pub leaves : effects (does j) m ≡ effects (e .effects) m
 
 module _ {m : Memory} {e : Event} {j : Decision} {does : Decision → List Effect} (t : Told m e j does) {d : Decision} (is : d ≡ j) where
+  same : d .verdict ≡ verdictOf e
+  same = rw is (t .verdict)
+
   pub done : {bs ws : List ℕ} → d .verdict ≤ slipped → memory bs ws ≡ effects (does d) m → left (d .verdict) 0 bs ws ≡ outcome m e
   unfolding outcome
   done h s =
-      let v : d .verdict ≡ verdictOf e = rw is (t .verdict) in
-      let y : isDone (verdictOf e) ≡ true = rw v at (le-leb _ _ h) in
+      let y : isDone (verdictOf e) ≡ true = rw same at (le-leb _ _ h) in
       let u : memory _ _ ≡ effects (e .effects) m = s ∙ rw is (t .leaves) in
-      rw y (λ i. record { verdict = v i; rounds = 0; memory = u i })
+      rw y (λ i. record { verdict = same i; rounds = 0; memory = u i })
 
   pub refused : slipped < d .verdict → left (d .verdict) 0 (m .bytes) (m .words) ≡ outcome m e
   unfolding outcome
   refused h =
-      let v : d .verdict ≡ verdictOf e = rw is (t .verdict) in
-      let n : isDone (verdictOf e) ≡ false = rw v at (lt-leb _ _ h) in
-      rw n (λ i. record { verdict = v i; rounds = 0; memory = m })
+      let n : isDone (verdictOf e) ≡ false = rw same at (lt-leb _ _ h) in
+      rw n (λ i. record { verdict = same i; rounds = 0; memory = m })
 
   -- a call that is done passed all its tests; at a concrete event the last argument is `refl`
   pub told-tests : d .verdict ≤ slipped → refusals (e .tests) ≡ true → Holds (e .tests)
-  told-tests h r =
-      let v : d .verdict ≡ verdictOf e = rw is (t .verdict) in
-      done-tests e r (rw v at (le-leb _ _ h))
+  told-tests h r = done-tests e r (rw same at (le-leb _ _ h))
 
 -- an effect on the bytes alone, then effects that leave the bytes
 pub bytes-first : (e : Effect) (es : List Effect) (bs : List ℕ) {bs′ ws ws′ : List ℕ} → bs′ ≡ effect e (memory bs ws) .bytes → effect e (memory bs ws) .words ≡ ws

@@ -71,6 +71,7 @@ pub fn move_object(object_task: bool, object_to: bool, driver_marked: bool) -> D
     }
 }
 
+// The object is gone, so only the flow to its driver is left.
 pub fn delete(object_task: bool, driver_marked: bool) -> Decision
     ensures { λ r. ⌜ r ≡ deleteDecision «object_task» «driver_marked» ⌝ }
 {
