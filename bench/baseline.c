@@ -14,9 +14,9 @@ struct state {
     const struct tupehiwo_order *order;
 };
 
-/* A bit for each number, 0 to 63 in the low word. */
+/* A bit for each number. */
 struct set {
-    uint64_t low, high;
+    uint64_t words[2];
 };
 
 /* ------------------------------------------------------------------- sets */
@@ -31,40 +31,24 @@ static inline void put(uint64_t *row, unsigned n)
     row[n / 64] |= UINT64_C(1) << (n % 64);
 }
 
-static inline struct set join(struct set a, struct set b)
+static inline void join(struct set *set, const uint64_t *row)
 {
-    return (struct set){a.low | b.low, a.high | b.high};
+    set->words[0] |= row[0];
+    set->words[1] |= row[1];
 }
 
-static inline struct set common(struct set a, struct set b)
+static inline int empty(const struct set *set)
 {
-    return (struct set){a.low & b.low, a.high & b.high};
+    return (set->words[0] | set->words[1]) == 0;
 }
 
-static inline struct set without(struct set a, struct set b)
+/* Removes and returns the lowest number of a set that is not empty. */
+static inline unsigned take(struct set *set)
 {
-    return (struct set){a.low & ~b.low, a.high & ~b.high};
-}
-
-static inline int empty(struct set set)
-{
-    return (set.low | set.high) == 0;
-}
-
-static inline struct set join_rows(struct set set, const uint64_t *rows, uint64_t word)
-{
-    for (; word != 0; word &= word - 1) {
-        const uint64_t *row = rows + 2 * __builtin_ctzll(word);
-        set = join(set, (struct set){row[0], row[1]});
-    }
-    return set;
-}
-
-/* The rows of a set's numbers together. */
-static inline struct set rows_of(const uint64_t *rows, struct set of)
-{
-    struct set low = join_rows((struct set){0, 0}, rows, of.low);
-    return join_rows(low, rows + THINGS, of.high);
+    unsigned w = set->words[0] == 0;
+    unsigned n = 64 * w + (unsigned)__builtin_ctzll(set->words[w]);
+    set->words[w] &= set->words[w] - 1;
+    return n;
 }
 
 /* ---------------------------------------------------------------- records */
@@ -119,72 +103,34 @@ static void make(struct state *s, unsigned n, const uint8_t record[RECORD])
     memcpy(s->bytes + RECORD * n, record, RECORD);
 }
 
-/* ---------------------------------------------------------- whole records */
-
-/* A record as one value, kind in the lowest byte, as the processor loads it. */
-static inline uint64_t load(const uint8_t *record)
+static void mark_objects(struct state *s, unsigned driver)
 {
-    uint64_t whole;
-    memcpy(&whole, record, sizeof whole);
-    return whole;
+    for (unsigned n = 0; n < THINGS; n++)
+        if (field(s, n, KIND) == OBJECT && field(s, n, DRIVER) == driver)
+            s->bytes[RECORD * n + MARKS] = MARKED;
+}
+
+/* -------------------------------------------------------------- soundness */
+
+/*
+ * A record as one value, kind in the lowest byte. Under these masks are the
+ * bytes and bits that every task, or every object, has alike.
+ */
+#define TASK_ALIKE UINT64_C(0xFFFFFCFFFF0000FF)
+#define OBJECT_ALIKE UINT64_C(0xFFFFFE0000FF00FF)
+
+/* Compilers join the eight loads to one. */
+static inline uint64_t load(const uint8_t *r)
+{
+    return (uint64_t)r[0] | (uint64_t)r[1] << 8 | (uint64_t)r[2] << 16 | (uint64_t)r[3] << 24 |
+           (uint64_t)r[4] << 32 | (uint64_t)r[5] << 40 | (uint64_t)r[6] << 48 |
+           (uint64_t)r[7] << 56;
 }
 
 static inline unsigned part(uint64_t whole, unsigned place)
 {
     return whole >> (8 * place) & 255;
 }
-
-static inline uint64_t at(unsigned place, unsigned value)
-{
-    return (uint64_t)value << (8 * place);
-}
-
-/* Whether an object has that value in that byte. */
-static inline int object_with(uint64_t whole, unsigned place, unsigned value)
-{
-    return (whole & (at(KIND, 255) | at(place, 255))) == (at(KIND, OBJECT) | at(place, value));
-}
-
-/* Eight records at a time: compilers turn the inner loop into straight code. */
-static inline uint64_t word_of(const uint8_t *records, uint64_t bits)
-{
-    uint64_t word = 0;
-    for (unsigned first = 0; first < 64; first += 8) {
-        uint64_t eight = 0;
-        for (unsigned n = 0; n < 8; n++)
-            eight |= (uint64_t)((load(records + RECORD * (first + n)) & bits) != 0) << n;
-        word |= eight << first;
-    }
-    return word;
-}
-
-/* The numbers whose record has one of the bits. */
-static inline struct set set_of(const uint8_t *bytes, uint64_t bits)
-{
-    return (struct set){word_of(bytes, bits), word_of(bytes + TUPEHIWO_BYTES / 2, bits)};
-}
-
-/* Marks are 0, 1 or 3: the lowest bit tells. */
-static inline struct set marked_set(const uint8_t *bytes)
-{
-    return set_of(bytes, at(MARKS, MARKED));
-}
-
-/* Without a branch, and an object's marks are 0 or 1. */
-static void mark_objects(struct state *s, unsigned driver)
-{
-    for (unsigned n = 0; n < THINGS; n++) {
-        uint64_t whole = load(s->bytes + RECORD * n);
-        whole |= at(MARKS, object_with(whole, DRIVER, driver) ? MARKED : 0);
-        memcpy(s->bytes + RECORD * n, &whole, sizeof whole);
-    }
-}
-
-/* -------------------------------------------------------------- soundness */
-
-/* Under these masks are the bytes and bits that every task, or every object, has alike. */
-#define TASK_ALIKE UINT64_C(0xFFFFFCFFFF0000FF)
-#define OBJECT_ALIKE UINT64_C(0xFFFFFE0000FF00FF)
 
 static inline int sound_task(uint64_t whole, unsigned count)
 {
@@ -203,50 +149,38 @@ static inline int sound_object(const uint8_t *bytes, unsigned n, uint64_t whole,
            (container < THINGS && container != n && bytes[RECORD * container] == OBJECT);
 }
 
-static inline int sound_record(const uint8_t *bytes, unsigned n, unsigned count)
-{
-    uint64_t whole = load(bytes + RECORD * n);
-    return whole == 0 || sound_task(whole, count) || sound_object(bytes, n, whole, count);
-}
-
-/* Eight free records at once cost one test. */
 static int sound(const uint8_t *bytes, const struct tupehiwo_order *order)
 {
-    unsigned count = order->count;
-    if (bytes[KIND] != TASK || bytes[LEVEL] != order->top)
-        return 0;
-    for (unsigned first = 0; first < THINGS; first += 8) {
-        uint64_t any = 0;
-        for (unsigned n = first; n < first + 8; n++)
-            any |= load(bytes + RECORD * n);
-        if (any == 0)
-            continue;
-        for (unsigned n = first; n < first + 8; n++)
-            if (!sound_record(bytes, n, count))
-                return 0;
+    for (unsigned n = 0; n < THINGS; n++) {
+        uint64_t whole = load(bytes + RECORD * n);
+        if (whole != 0 && !sound_task(whole, order->count) &&
+            !sound_object(bytes, n, whole, order->count))
+            return 0;
     }
-    return 1;
+    return bytes[KIND] == TASK && bytes[LEVEL] == order->top;
 }
 
-/*
- * What is strictly above i has its rows within it: that is transitivity and
- * antisymmetry. What is wrong is gathered and tested once, at the end.
- */
+/* Row j within row i, for each j above i, is transitivity. */
 static int ordered(const struct tupehiwo_order *order)
 {
-    unsigned count = order->count, top = order->top, wrong = 0;
+    unsigned count = order->count, top = order->top;
     if (count < 1 || count > TUPEHIWO_LEVELS || top >= count)
         return 0;
     unsigned outside = ~0u << count;
     for (unsigned i = 0; i < count; i++) {
-        unsigned row = order->rows[i], strict = row & ~(1u << i), reached = 0;
-        for (unsigned rest = strict; rest != 0; rest &= rest - 1)
-            reached |= order->rows[__builtin_ctz(rest)];
-        wrong |= (row & outside) | (~row & (1u << i | 1u << top)) | (reached & ~strict);
+        unsigned above = order->rows[i];
+        if ((above & outside) || !(above >> i & 1) || !(above >> top & 1))
+            return 0;
+        for (unsigned rest = above & ~(1u << i); rest != 0; rest &= rest - 1) {
+            unsigned higher = order->rows[__builtin_ctz(rest)];
+            if ((higher & ~above) || (higher >> i & 1))
+                return 0;
+        }
     }
     for (unsigned i = count; i < TUPEHIWO_LEVELS; i++)
-        wrong |= order->rows[i];
-    return wrong == 0;
+        if (order->rows[i] != 0)
+            return 0;
+    return 1;
 }
 
 /* Whether the lengths, then the bytes, then the order let a call go on. */
@@ -391,23 +325,20 @@ static uint8_t move(struct state *s, unsigned task, unsigned driver, unsigned ob
 
 static int filled(const struct state *s, unsigned container)
 {
-    int found = 0;
     for (unsigned n = 0; n < THINGS; n++)
-        found |= object_with(load(s->bytes + RECORD * n), CONTAINER, container);
-    return found;
+        if (field(s, n, KIND) == OBJECT && field(s, n, CONTAINER) == container)
+            return 1;
+    return 0;
 }
 
 /* Rows of all three kinds lie one after the other: one loop clears the column. */
 static void clear(struct state *s, unsigned n)
 {
     static const uint8_t nothing[RECORD] = {FREE};
-    uint64_t column[2] = {0, 0};
-    put(column, n);
+    uint64_t keep = ~(UINT64_C(1) << (n % 64));
     make(s, n, nothing);
-    for (unsigned w = 0; w < TUPEHIWO_WORDS; w += 2) {
-        s->words[w] &= ~column[0];
-        s->words[w + 1] &= ~column[1];
-    }
+    for (unsigned w = n / 64; w < TUPEHIWO_WORDS; w += 2)
+        s->words[w] &= keep;
     for (unsigned kind = FLOWS; kind <= WRITES; kind += READS)
         memset(row(s, kind, n), 0, 2 * sizeof *s->words);
 }
@@ -523,19 +454,20 @@ static uint8_t mark(struct state *s, unsigned task)
     return TUPEHIWO_GRANTED;
 }
 
-static int any_holds(const uint64_t *rows, uint64_t word, unsigned x)
+static struct set marked_set(const uint8_t *bytes)
 {
-    for (; word != 0; word &= word - 1)
-        if (holds(rows + 2 * __builtin_ctzll(word), x))
-            return 1;
-    return 0;
+    struct set set = {{0, 0}};
+    for (unsigned n = 0; n < THINGS; n++)
+        set.words[n / 64] |= (uint64_t)(bytes[RECORD * n + MARKS] != 0) << (n % 64);
+    return set;
 }
 
 static int fed(const struct state *s, unsigned x)
 {
-    struct set sources = marked_set(s->bytes);
-    return any_holds(row(s, FLOWS, 0), sources.low, x) ||
-           any_holds(row(s, FLOWS, 64), sources.high, x);
+    for (struct set sources = marked_set(s->bytes); !empty(&sources);)
+        if (has(s, FLOWS, take(&sources), x))
+            return 1;
+    return 0;
 }
 
 static uint8_t step(struct state *s, unsigned x)
@@ -550,70 +482,58 @@ static uint8_t step(struct state *s, unsigned x)
     return TUPEHIWO_GRANTED;
 }
 
-/* Rows of the objects that each task drives, and a row of the tasks that drive any. */
-struct driving {
-    uint64_t objects[2 * THINGS], drivers[2];
+/* What a spread looks up again and again: who is unmarked, and whose objects are whose. */
+struct reach {
+    struct set unmarked;
+    struct set driven[THINGS];
 };
 
-static void survey(const struct state *s, struct driving *driving, uint64_t word,
-                   unsigned first)
+static void survey(const struct state *s, struct reach *reach)
 {
-    for (; word != 0; word &= word - 1) {
-        unsigned n = first + (unsigned)__builtin_ctzll(word), driver = field(s, n, DRIVER);
-        put(driving->objects + 2 * driver, n);
-        put(driving->drivers, driver);
+    memset(reach, 0, sizeof *reach);
+    for (unsigned n = 0; n < THINGS; n++) {
+        unsigned kind = field(s, n, KIND);
+        if (kind != FREE && !marked(s, n))
+            put(reach->unmarked.words, n);
+        if (kind == OBJECT)
+            put(reach->driven[field(s, n, DRIVER)].words, n);
     }
 }
 
-static void mark_word(uint8_t *records, uint64_t word)
+/* Moves those of a row that are unmarked from there into the set of newly marked. */
+static inline void catch_unmarked(struct reach *reach, struct set *caught, const uint64_t *row)
 {
-    for (; word != 0; word &= word - 1)
-        records[RECORD * __builtin_ctzll(word) + MARKS] = MARKED;
-}
-
-static void mark_set(struct state *s, struct set set)
-{
-    mark_word(s->bytes, set.low);
-    mark_word(s->bytes + TUPEHIWO_BYTES / 2, set.high);
+    for (unsigned w = 0; w < 2; w++) {
+        uint64_t both = row[w] & reach->unmarked.words[w];
+        caught->words[w] |= both;
+        reach->unmarked.words[w] &= ~both;
+    }
 }
 
 /*
- * Rounds until one catches nothing; gives back who is unmarked then. What older
- * sources feed, and the objects of older drivers, are marked by then: only those
- * that the last round caught are sources of the next.
+ * What older sources feed, and the objects of older drivers, are marked by
+ * then: only those that the last round caught are sources of the next.
  */
-static struct set run_rounds(const struct state *s, const struct driving *driving,
-                             struct set marked, struct set unmarked, uint8_t *rounds)
-{
-    struct set drivers = {driving->drivers[0], driving->drivers[1]}, sources = marked;
-    for (;;) {
-        struct set caught = common(rows_of(row(s, FLOWS, 0), sources), unmarked);
-        struct set captured = *rounds == 0 ? join(marked, caught) : caught;
-        struct set objects = rows_of(driving->objects, common(captured, drivers));
-        caught = join(caught, common(objects, unmarked));
-        if (empty(caught))
-            return unmarked;
-        ++*rounds;
-        unmarked = without(unmarked, caught);
-        sources = caught;
-    }
-}
-
 static uint8_t spread(struct state *s)
 {
-    struct driving driving;
-    struct set marked = marked_set(s->bytes), objects, unmarked, left;
+    struct reach reach;
+    struct set sources = marked_set(s->bytes);
     uint8_t rounds = 0;
-    if (empty(marked))
-        return 0;
-    objects = without(set_of(s->bytes, at(KIND, OBJECT)), marked);
-    unmarked = join(without(set_of(s->bytes, at(KIND, TASK)), marked), objects);
-    memset(&driving, 0, sizeof driving);
-    survey(s, &driving, objects.low, 0);
-    survey(s, &driving, objects.high, 64);
-    left = run_rounds(s, &driving, marked, unmarked, &rounds);
-    mark_set(s, without(unmarked, left));
-    return rounds;
+    survey(s, &reach);
+    for (;;) {
+        struct set caught = {{0, 0}}, drivers = sources;
+        while (!empty(&sources))
+            catch_unmarked(&reach, &caught, row(s, FLOWS, take(&sources)));
+        join(&drivers, caught.words);
+        while (!empty(&drivers))
+            catch_unmarked(&reach, &caught, reach.driven[take(&drivers)].words);
+        if (empty(&caught))
+            return rounds;
+        rounds++;
+        sources = caught;
+        while (!empty(&caught))
+            s->bytes[RECORD * take(&caught) + MARKS] = MARKED;
+    }
 }
 
 /* ------------------------------------------------------------ public calls */
@@ -675,10 +595,9 @@ struct tupehiwo_report baseline_report(const uint8_t *bytes, size_t nbytes,
     (void)words; /* the marks stand in the bytes */
     if (report.verdict == TUPEHIWO_GRANTED) {
         struct set set = marked_set(bytes);
-        report.words[0] = set.low;
-        report.words[1] = set.high;
+        memcpy(report.words, set.words, sizeof report.words);
         report.ones =
-            (uint32_t)(__builtin_popcountll(set.low) + __builtin_popcountll(set.high));
+            (uint32_t)(__builtin_popcountll(set.words[0]) + __builtin_popcountll(set.words[1]));
     }
     return report;
 }
