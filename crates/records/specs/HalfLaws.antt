@@ -26,6 +26,10 @@ joined a b c d = a + b * 0x100 + c * 0x1_0000 + d * 0x100_0000
 unfoldable pub half : List ℕ → ℕ → ℕ → ℕ
 half bs x f = joined (field bs x f) (field bs x (f + 1)) (field bs x (f + 2)) (field bs x (f + 3))
 
+-- the whole record of x as one number
+unfoldable pub word : List ℕ → ℕ → ℕ
+word bs x = half bs x 0 + half bs x 4 * 0x1_0000_0000
+
 -- the test of a task of which the halves are low and high
 unfoldable pub taskHalves : ℕ → ℕ → ℕ → Bool
 taskHalves count low high =
@@ -48,6 +52,10 @@ objectHalves count bs x low high =
     && (isTask bs (low / 0x100_0000) && containerFits bs x (unmarked high))
 
 -- ---- over bytes, the halves say what the fields say
+
+pub half-below : (bs : List ℕ) (x f : ℕ) → ((i : ℕ) → Fits w8 (getD bs i 0)) → half bs x f < 0x1_0000_0000
+unfolding half field
+half-below bs x f byte = omega (arith, byte (recordSize * x + f) .fits, byte (recordSize * x + (f + 1)) .fits, byte (recordSize * x + (f + 2)) .fits, byte (recordSize * x + (f + 3)) .fits)
 
 module _ (o : Order) (bs : List ℕ) (x : ℕ) (long : length bs ≡ recordSize * numbers) (byte : (i : ℕ) → Fits w8 (getD bs i 0)) where
   byte-of : (f : ℕ) → field bs x f < 256
@@ -83,6 +91,15 @@ module _ (o : Order) (bs : List ℕ) (x : ℕ) (long : length bs ≡ recordSize 
   free-halves : (eqb (half bs x 0) 0 && eqb (half bs x 4) 0) ≡ freeRecord bs x
   unfolding freeRecord allB
   free-halves = rw (zeros 0, zeros 4) (simp and-assoc)
+
+  -- all eight bytes are zero
+  pub free-word : eqb (word bs x) 0 ≡ freeRecord bs x
+  unfolding word
+  free-word =
+      both-ways (eqb (word bs x) 0) (eqb (half bs x 0) 0 && eqb (half bs x 4) 0)
+      (λ h. simp and-eq-true-iff (omega (arith, eqb-true, eq-eqb)))
+      (λ h. let p = simp and-eq-true-iff at h in omega (arith, eqb-true, eq-eqb))
+      ∙ free-halves
 
   -- ---- a task
 

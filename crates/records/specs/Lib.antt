@@ -1,4 +1,5 @@
 pub mod Records
 pub mod RecordLaws
 pub mod HalfLaws
+pub mod GroupLaws
 pub mod KeepLaws

@@ -11,7 +11,7 @@ use lib.Dec.{ltb, eqb}
 use lib.ListN.{length, length-set, List·getD-eq-default}
 use lib.Seq.{getD-set-same, getD-set-other}
 use borrow.Author.Tests.{eqb-true, eqb-false, eq-eqb, ne-eqb, ltb-true, ltb-false, lt-ltb, not-true}
-use Rattle.bits.specs.AllLaws.{all-at, all-i, all-fails, and-i, and-false, either, or-cases, or-l, or-r, or-false}
+use Rattle.bits.specs.AllLaws.{all-at, all-i, all-fails, and-i, either, or-cases, or-l, or-r, or-false}
 use Rattle.levels.specs.declared.Order.{Order}
 use Rattle.records.specs.Records.{numbers, recordSize, rootSign, field, setField, setRecord, kind, level, readLevel, driver, container, marks, isTask, isObject, freeRecord, taskRecord, objectRecord, soundRecord, coreRecord, sound}
 
@@ -177,11 +177,6 @@ module _ (o : Order) (bs : List ℕ) where
   pub sound-i : length bs ≡ recordSize * numbers → coreRecord o bs ≡ true → ((x : ℕ) → x < numbers → soundRecord o bs x ≡ true) → sound o bs ≡ true
   unfolding sound
   sound-i long core each = and-i (and-i (eq-eqb _ _ long) core) (all-i numbers (λ x. soundRecord o bs x) each)
-
-  -- one record that is not sound fails them all
-  pub unsound-at : (x : ℕ) → x < numbers → soundRecord o bs x ≡ false → sound o bs ≡ false
-  unfolding sound
-  unsound-at x l e = simp (all-fails numbers (λ x. soundRecord o bs x) x l e, and-false)
 
 module _ (o : Order) (bs : List ℕ) (ok : sound o bs ≡ true) where
   pub long : length bs ≡ recordSize * numbers

@@ -15,13 +15,19 @@ ghost use Rattle.records.specs.Records.{
   soundRecord,
   sound,
 };
-ghost use Rattle.records.specs.HalfLaws.{joined, half, taskHalves, containerFits, objectHalves};
+ghost use Rattle.records.specs.HalfLaws.{joined, half, word, taskHalves, containerFits, objectHalves};
+ghost use Rattle.records.specs.GroupLaws.{groupSize, groups, groupFree, groupSound};
 use levels::Order;
 
 // How many numbers there are, and the bytes of a record and of them all.
 pub const NUMBERS: usize = 128;
 
 const RECORD_SIZE: usize = 8;
+
+// The numbers are tested in groups.
+const GROUP_SIZE: usize = 8;
+
+const GROUPS: usize = 16;
 
 pub const BYTES: usize = 1024;
 
@@ -133,6 +139,14 @@ fn half(bytes: &[u8], x: usize, f: usize) -> usize
     join(bytes[i], bytes[i + 1], bytes[i + 2], bytes[i + 3])
 }
 
+// The whole record of x as one number.
+fn word(bytes: &[u8], x: usize) -> usize
+    requires { ⌜ (length (now bytes) ≡ recordSize * numbers) × (x < numbers) ⌝ }
+    ensures { λ r. ⌜ r ≡ word (now (bytes .entry)) x ⌝ }
+{
+    half(bytes, x, 0) + half(bytes, x, 4) * 0x1_0000_0000
+}
+
 fn kind_at(bytes: &[u8], x: usize) -> u8
     requires { ⌜ (length (now bytes) ≡ recordSize * numbers) × (x < numbers) ⌝ }
     ensures { λ r. ⌜ r ≡ kind (now (bytes .entry)) x ⌝ }
@@ -208,6 +222,40 @@ fn core_sound(bytes: &[u8], order: Order) -> bool
     is_task(bytes, 0) & (field(bytes, 0, LEVEL) as u16 == order.top)
 }
 
+// The records of the group g are all free: one test for eight numbers.
+fn group_free(bytes: &[u8], g: usize) -> bool
+    requires { ⌜ (length (now bytes) ≡ recordSize * numbers) × (g < groups) ⌝ }
+    ensures { λ r. ⌜ r ≡ groupFree (now (bytes .entry)) g ⌝ }
+{
+    let x = GROUP_SIZE * g;
+    (word(bytes, x) == 0)
+        & (word(bytes, x + 1) == 0)
+        & (word(bytes, x + 2) == 0)
+        & (word(bytes, x + 3) == 0)
+        & (word(bytes, x + 4) == 0)
+        & (word(bytes, x + 5) == 0)
+        & (word(bytes, x + 6) == 0)
+        & (word(bytes, x + 7) == 0)
+}
+
+// The records of the group g are sound.
+fn group_sound(bytes: &[u8], order: Order, g: usize) -> bool
+    requires { ⌜ (length (now bytes) ≡ recordSize * numbers) × (g < groups) ⌝ }
+    ensures { λ r. ⌜ r ≡ groupSound order (now (bytes .entry)) g ⌝ }
+{
+    if group_free(bytes, g) {
+        return true;
+    }
+    let mut k: usize = 0;
+    while k < GROUP_SIZE {
+        if !record_sound(bytes, order, GROUP_SIZE * g + k) {
+            return false;
+        }
+        k += 1;
+    }
+    true
+}
+
 // The bytes are sound.
 pub fn sound(bytes: &[u8], order: Order) -> bool
     ensures { λ r. ⌜ r ≡ sound order (now (bytes .entry)) ⌝ }
@@ -218,12 +266,12 @@ pub fn sound(bytes: &[u8], order: Order) -> bool
     if !core_sound(bytes, order) {
         return false;
     }
-    let mut x: usize = 0;
-    while x < NUMBERS {
-        if !record_sound(bytes, order, x) {
+    let mut g: usize = 0;
+    while g < GROUPS {
+        if !group_sound(bytes, order, g) {
             return false;
         }
-        x += 1;
+        g += 1;
     }
     true
 }
