@@ -2,13 +2,13 @@
 -- Assumes nothing.
 use mathlib.Core.Path.{_≡_, refl, sym, ap, ap₂, _∙_}
 use mathlib.Core.Logic.{_⊎_, inl, inr, ⊎-elim}
-use mathlib.Core.Bool.{Bool, true, false, not, _&&_, _||_, true≢false, or-assoc}
+use mathlib.Core.Bool.{Bool, true, false, not, _&&_, _||_, true≢false, and-eq-true-iff, or-assoc}
 use mathlib.Core.List.{List}
 use Prim.Native.Nat.{ℕ, zero, suc, _+_, _-_, _≤_, _<_}
 use native.Mathlib.Nat.{zero-add}
 use native.Mathlib.Omega.{arith}
 use Rattle.bits.specs.All.{anyB, countB}
-use Rattle.bits.specs.AllLaws.{any-ext, and-true, and-false}
+use Rattle.bits.specs.AllLaws.{any-ext, any-i, any-at, not-so, and-true, and-false}
 use Rattle.bits.specs.LoopLaws.{count-le}
 use Rattle.rows.specs.Rows.{cell}
 use Rattle.records.specs.Records.{numbers}
@@ -17,7 +17,7 @@ use Rattle.model.specs.StateLaws.{object-used}
 use Rattle.model.specs.Effects.{markWhere}
 use Rattle.model.specs.Spread.{reached, driven, round, marksSome, rounds, afterRounds, spread}
 use Rattle.model.specs.MarkLaws.{MoreMarks, more-none, more-then, kept-inUse, kept-marked, where-length}
-use Rattle.model.specs.SpreadLaws.{Sized, sized-more, byFlows, more-round, marked-round, unmarked, round-fewer, rest-rounds, after-keeps, spread-only}
+use Rattle.model.specs.SpreadLaws.{Sized, sized-more, byFlows, round-only, more-round, marked-round, unmarked, round-fewer, rest-rounds, after-keeps, spread-only}
 use Rattle.marking.specs.declared.sets.Set.{Set}
 use Rattle.marking.specs.declared.rounds.Spread.{Spread}
 use Rattle.marking.specs.Sets.{has, setOf, joined}
@@ -186,3 +186,20 @@ spread-is m h {done} {n} e f =
         go : (b : Bool) → (b ≡ true → inUse m x ≡ true) → (unmarked m x && b) ≡ b
         go true u = rw (u refl, d)
         go false u = and-false (unmarked m x)
+
+-- where nothing is marked there is no round
+pub spread-none : (m : Memory) → Sized m → {src : Set} → src ≡ setOf (marked m) → anyB 128 (λ x. has src x) ≡ false → record { verdict = 0; rounds = 0; memory = m } ≡ spread m
+unfolding spread marksSome
+spread-none m h {src} e f =
+    let r = sym (rest-rounds numbers m still) in
+    let a = sym (rest-after numbers m still) in
+    λ i. record { verdict = 0; rounds = r i; memory = a i }
+  where
+    none : (x : ℕ) → x < numbers → marked m x ≡ true → ⊥
+    none x l p = true≢false (sym (any-i 128 (λ x. has src x) x l (in-set _ e x l ∙ p)) ∙ f)
+
+    still : marksSome m ≡ false
+    still =
+        not-so _
+        (λ p. let s = any-at numbers _ p in
+        round-only (λ x. ⊥) m m (record { by-flow = λ x y q l u f. q; by-driver = λ x y q l o d. q }) (more-none m) h none (s .0) (s .1) ((simp and-eq-true-iff at (s .2)) .0))

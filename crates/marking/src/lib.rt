@@ -158,9 +158,13 @@ pub fn spread(bytes: &mut [u8], words: &[u64], order: Order) -> u8
     requires { ⌜ (length (now bytes) ≡ 1024) × (length (now words) ≡ 768) × (orderPasses order ≡ true) × (sound order (now bytes) ≡ true) ⌝ }
     ensures { λ r. ⌜ left 0 r (now (bytes .exit)) (now (words .entry)) ≡ rounds.spread (memory (now (bytes .entry)) (now (words .entry))) ⌝ }
 {
+    let sources = sets::with_field(bytes, MARKS);
+    if sets::is_empty(sources) {
+        return 0;
+    }
     let mut owned = [0u64; 258];
     rounds::own_rows(bytes, &mut owned);
-    let done = rounds::spread_sets(bytes, words, &owned);
+    let done = rounds::spread_sets(bytes, words, &owned, sources);
     let set = done.marked;
     marks::mark_set(bytes, set);
     done.rounds

@@ -1,7 +1,6 @@
 // The rounds of a spread, on sets.
 use crate::DRIVER;
 use crate::KIND;
-use crate::MARKS;
 use crate::NUMBERS;
 use crate::RECORD_SIZE;
 use crate::sets;
@@ -9,7 +8,9 @@ use crate::sets::Set;
 ghost use mathlib.Core.Path.{_≡_};
 ghost use Prim.Native.Nat.{_≤_, _<_};
 ghost use lib.ListN.{length};
+ghost use Rattle.model.specs.State as state;
 ghost use Rattle.model.specs.State.{memory};
+ghost use Rattle.marking.specs.Sets.{setOf};
 ghost use Rattle.marking.specs.Rounds.{Table, ownRow, ownRows, roundSet, spreadSets};
 
 // An object is put into the row of its driver, and its driver into the last row.
@@ -59,11 +60,10 @@ pub struct Spread {
 }
 
 // The rounds go on until one marks nothing. What older sources feed or drive is marked by then, so only the things that the last round marked are sources of the next.
-pub fn spread_sets(bytes: &[u8], words: &[u64], owned: &[u64]) -> Spread
-    requires { ⌜ (length (now bytes) ≡ 1024) × (length (now words) ≡ 768) × (length (now owned) ≡ 258) × Table (memory (now bytes) (now words)) (now owned) ⌝ }
+pub fn spread_sets(bytes: &[u8], words: &[u64], owned: &[u64], marked: Set) -> Spread
+    requires { ⌜ (length (now bytes) ≡ 1024) × (length (now words) ≡ 768) × (length (now owned) ≡ 258) × Table (memory (now bytes) (now words)) (now owned) × (marked ≡ setOf (state.marked (memory (now bytes) (now words)))) ⌝ }
     ensures { λ r. ⌜ r ≡ spreadSets (memory (now (bytes .entry)) (now (words .entry))) ⌝ }
 {
-    let marked = sets::with_field(bytes, MARKS);
     let before = sets::without(sets::with_field(bytes, KIND), marked);
     let mut unmarked = before;
     let mut new = round(words, owned, unmarked, marked);

@@ -22,36 +22,36 @@ abbrev μ-loop : tie.MeasureT-loop
 
 -- the unmarked things in use at entry
 first : (c : tie.After-without Inv-loop μ-loop)
-    → c .without .result ≡ setOf (λ x. unmarked (memory (c .before .before .before .before .before .before .args .bytes .now) (c .before .before .before .before .before .before .args .words .now)) x)
+    → c .without .result ≡ setOf (λ x. unmarked (memory (c .before .before .before .before .before .args .bytes .now) (c .before .before .before .before .before .args .words .now)) x)
 unfolding inUse marked
 first c =
-    let a = c .before .before .before .before .before .before .args in
-    unmarked-set (memory (a .bytes .now) (a .words .now)) (c .before .with-field2 .ensures) (c .before .before .with-field .ensures) (c .without .ensures)
+    let z = c .before .before .before .before .before in
+    unmarked-set (memory (z .args .bytes .now) (z .args .words .now)) (c .before .with-field .ensures) (z .pre .4) (c .without .ensures)
 
 loop-holds : tie.Need-loop-holds Inv-loop μ-loop
 unfolding marked
 loop-holds c =
-    let z = c .before .before .before .before .before .before .before in
-    spreading-first _ (search needs) (z .args .owned .now) (z .pre .3) (c .before .before .before .with-field .ensures) (first (c .before)) (c .round .ensures)
+    let z = c .before .before .before .before .before .before in
+    spreading-first _ (search needs) (z .args .owned .now) (z .pre .3) (z .pre .4) (first (c .before)) (c .round .ensures)
 
 some : (c : tie.Then1 Inv-loop μ-loop) → anyB 128 (λ x. has (c .before .before .loop .new) x) ≡ true
 some c = not-false _ (sym (c .before .is-empty .ensures) ∙ not-true _ (c .if1 .taken))
 
 below : (c : tie.Then1 Inv-loop μ-loop) → c .before .before .loop .count < 128
 below c =
-    let z = c .before .before .before .before .before .before .before .before .before .before in
+    let z = c .before .before .before .before .before .before .before .before .before in
     spreading-below _ (search needs) (z .args .owned .now) (z .pre .3) (c .before .before .loop .inv) (some c)
 
 loop-again : tie.Need-loop-again Inv-loop μ-loop
 loop-again c =
     let d = c .before .before in
-    let z = d .before .before .before .before .before .before .before .before .before .before in
+    let z = d .before .before .before .before .before .before .before .before .before in
     spreading-next _ (search needs) (z .args .owned .now) (z .pre .3) (d .before .before .loop .inv) (some d) (c .before .without2 .ensures) (c .round2 .ensures)
 
 returns : tie.Need-returns Inv-loop μ-loop
 returns c =
     let d = c .before .before .before in
-    let z = d .before .before .before .before .before .before .before .before in
+    let z = d .before .before .before .before .before .before .before in
     spreading-end _ (search needs) (z .args .owned .now) (z .pre .3) (d .loop .inv) (not-true _ (sym (c .before .before .is-empty .ensures) ∙ not-false _ (c .before .if1 .left)))
     (first (d .before .before)) (c .without3 .ensures)
 
@@ -61,7 +61,6 @@ spread-sets-spec =
     (tie.spec
     Inv-loop
     μ-loop
-    (λ c κs. search needs)
     (λ c κs. search needs)
     (λ c κs. search needs)
     (λ c κs. search needs)
