@@ -1,9 +1,9 @@
 -- Laws of Bools and of the tests over all numbers below n.
 -- Assumes nothing.
-use mathlib.Core.Path.{_≡_, refl, sym, ap, ap₂, _∙_, subst}
+use mathlib.Core.Path.{_≡_, refl, sym, ap, ap₂, _∙_}
 use mathlib.Core.Logic.{_⊎_, inl, inr, ⊎-elim}
-use mathlib.Core.Bool.{Bool, true, false, not, _&&_, _||_, true≢false, false≢true}
-use Prim.Native.Nat.{ℕ, zero, suc, _+_, _≤_, _<_}
+use mathlib.Core.Bool.{Bool, true, false, _&&_, _||_, true≢false, false≢true}
+use Prim.Native.Nat.{ℕ, zero, suc, _+_, _<_}
 use native.Mathlib.Nat.{le-of-suc-le-suc, not-suc-le-zero, eq-or-lt-of-le, le-refl, le-trans, le-suc}
 use native.Mathlib.Numerals.{add-one}
 use lib.Dec.{eqb}
@@ -66,15 +66,6 @@ pub all-none : (p : ℕ → Bool) → allB 0 p ≡ true
 unfolding allB
 all-none p = refl
 
--- one more, as a loop counts
-pub all-suc : (n : ℕ) (p : ℕ → Bool) → allB (n + 1) p ≡ (allB n p && p n)
-unfolding allB
-all-suc n p = ap (λ (k : ℕ). allB k p) (add-one n)
-
--- a loop's flag `ok = ok & p(n)`
-pub all-step : (n : ℕ) (p : ℕ → Bool) {ok b : Bool} → ok ≡ allB n p → b ≡ p n → (ok && b) ≡ allB (n + 1) p
-all-step n p e f = ap₂ (λ (x y : Bool). x && y) e f ∙ sym (all-suc n p)
-
 pub all-more : (n : ℕ) (p : ℕ → Bool) → allB n p ≡ true → p n ≡ true → allB (n + 1) p ≡ true
 unfolding allB
 all-more n p h e = ap (λ (k : ℕ). allB k p) (add-one n) ∙ and-i h e
@@ -89,10 +80,6 @@ pub all-i : (n : ℕ) (p : ℕ → Bool) → ((i : ℕ) → i < n → p i ≡ tr
 unfolding allB
 all-i zero p h = refl
 all-i (suc n) p h = and-i (all-i n p (λ i l. h i (le-trans l (le-suc n)))) (h n (le-refl (suc n)))
-
-pub all-ext : (n : ℕ) (p q : ℕ → Bool) → ((i : ℕ) → i < n → p i ≡ q i) → allB n p ≡ allB n q
-all-ext n p q h =
-    both-ways _ _ (λ e. all-i n q (λ i l. sym (h i l) ∙ all-at n p e i l)) (λ e. all-i n p (λ i l. h i l ∙ all-at n q e i l))
 
 -- one that fails fails them all: what a loop that leaves early shows
 pub all-fails : (n : ℕ) (p : ℕ → Bool) (i : ℕ) → i < n → p i ≡ false → allB n p ≡ false

@@ -1,7 +1,7 @@
 -- The claims of demand 3, each a short definition; the proofs stand in Proved.antt.
 -- Assumes nothing.
 use mathlib.Core.Path.{_≡_}
-use mathlib.Core.Bool.{Bool, true, false}
+use mathlib.Core.Bool.{true, false}
 use mathlib.Core.Logic.{_⊎_, _↔_}
 use mathlib.Core.List.{List, List·Memᴰ}
 use Prim.Native.Nat.{ℕ, _<_}
@@ -13,7 +13,6 @@ use Rattle.model.specs.declared.Call.the-variants.{Start, Mark, Spread}
 use Rattle.model.specs.Verdicts.{granted, isDone, row-state}
 use Rattle.model.specs.State.{Memory, lengthsFit, inUse, task, levelOf, marked, hasFlow}
 use Rattle.model.specs.Spread.{marksSome}
-use Rattle.model.specs.Events.{Outcome}
 use Rattle.model.specs.Monitor.{perform}
 use Rattle.containment.specs.Lists.{Item, Standing, run, Admissible, begun}
 use Rattle.containment.specs.Chains.{Chain}

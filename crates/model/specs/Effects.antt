@@ -1,12 +1,12 @@
 -- What an event does to the memory: a list of effects, done one after the other.
 -- Assumes nothing.
-use mathlib.Core.Bool.{Bool, true, false, cond, not, _&&_, _||_}
+use mathlib.Core.Bool.{Bool, cond, _&&_, _||_}
 use mathlib.Core.List.{List, [], _∷_}
 use Prim.Native.Nat.{ℕ}
 use lib.Dec.{eqb}
 use Rattle.bits.specs.All.{upTo, one}
 use Rattle.rows.specs.Rows.{addCell, clearThing}
-use Rattle.records.specs.Records.{numbers, rootSign, setField, setRecord}
+use Rattle.records.specs.Records.{numbers, setField, setRecord}
 use Rattle.model.specs.State.{Memory, rowSize, tables, flowRow, readRow, writeRow, task, object, driverOf, marked}
 
 pub data Effect : Type 0 where

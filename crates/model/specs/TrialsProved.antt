@@ -1,6 +1,6 @@
 -- The trials hold: one computation over the table, and the law that turns equal words into equal flows.
 -- Assumes nothing.
-use mathlib.Core.Path.{_≡_, refl, sym, ap, _∙_}
+use mathlib.Core.Path.{_≡_, refl, ap, _∙_}
 use mathlib.Core.Bool.{Bool, true, false, _&&_, _||_, false≢true}
 use mathlib.Core.List.{List, [], _∷_}
 use Prim.Native.Nat.{ℕ, zero, suc, _*_, _+_, _/_, _%_, _<_}
@@ -16,7 +16,7 @@ use Rattle.rows.specs.Rows.{cell, addCell}
 use Rattle.rows.specs.RowLaws.{cell-add, cell-zeros, length-add}
 use Rattle.levels.specs.Order.{atOrBelow, orderPasses, countFits, reflexive, transitive, antisymmetric, belowTop, clearOutside}
 use Rattle.records.specs.Records.{numbers, field, setField, setRecord, isTask, isObject, freeRecord, taskRecord, objectRecord, soundRecord, coreRecord, sound}
-use Rattle.model.specs.State.{Memory, rowSize, lengthsFit, inUse, task, object, marked, hasFlow}
+use Rattle.model.specs.State.{rowSize, lengthsFit, inUse, task, object, marked, hasFlow}
 use Rattle.model.specs.Effects.{effect, effects}
 use Rattle.model.specs.Events.{Outcome, unless, firstFailing, verdictOf, outcome, read, invoke}
 use Rattle.model.specs.Monitor.{perform, fitted, refusedUnless, refusal, start, started}

@@ -11,7 +11,7 @@ use Rattle.levels.specs.declared.Order.{Order}
 use Rattle.levels.specs.Order.{orderPasses}
 use Rattle.levels.specs.OrderLaws.{IsOrder, is-order, both-in}
 use Rattle.records.specs.Records.{setRecord}
-use Rattle.model.specs.State.{Memory, memory, lengthsFit}
+use Rattle.model.specs.State.{memory, lengthsFit}
 use Rattle.model.specs.Monitor.{started}
 use Rattle.monitor.proofs.set_up.Statement.{statement}
 use Rattle.monitor.proofs.set_up.Tie as tie

@@ -1,8 +1,7 @@
-use mathlib.Core.Path.{_≡_, sym, _∙_, ap}
+use mathlib.Core.Path.{sym, _∙_, ap}
 use borrow.Author.Needs.{needs}
 use borrow.Author.Tests.{not-true, not-false}
 use Rattle.model.specs.State.{Memory}
-use Rattle.model.specs.Events.{Outcome}
 use Rattle.model.specs.Monitor.{start}
 use Rattle.monitor.proofs.Rows.{passed, stopped}
 use Rattle.monitor.proofs.start.Statement.{statement}
