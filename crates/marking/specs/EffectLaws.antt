@@ -1,23 +1,28 @@
 -- Mark and step in the order of the code: the verdict first, then the thing's mark, then those of its objects.
 -- Assumes nothing.
 use mathlib.Core.Path.{_≡_, refl, sym, ap, _∙_}
-use mathlib.Core.Logic.{inr}
+use mathlib.Core.Logic.{inl, inr, ⊎-elim}
 use mathlib.Core.Bool.{Bool, true, false, not, cond, _&&_, _||_}
 use mathlib.Core.List.{List}
 use Prim.Native.Nat.{ℕ, _<_}
 use native.Mathlib.Omega.{arith}
 use lib.Dec.{eqb}
 use lib.ListN.{length}
-use Rattle.bits.specs.AllLaws.{or-false}
+use borrow.Author.Tests.{eqb-true, eqb-false}
+use Rattle.bits.specs.AllLaws.{either, or-false}
 use Rattle.levels.specs.declared.Order.{Order}
-use Rattle.records.specs.Records.{numbers, field, setField, isObject}
-use Rattle.records.specs.RecordLaws.{field-else, length-field}
+use Rattle.records.specs.Records.{numbers, field, setField, kind, isObject, sound}
+use Rattle.records.specs.RecordLaws.{object-facts, field-same, field-else, length-field}
 use Rattle.model.specs.State.{Memory, memory, inUse, task, object, marked}
 use Rattle.model.specs.Verdicts.{granted, row-number, row-still, isDone}
 use Rattle.model.specs.Effects.{effects, markWhere, objectOf, effect, mark-outside, mark-thing}
 use Rattle.model.specs.Events.{Event, outcome, verdictOf, firstFailing, unless, step, fed}
 use Rattle.model.specs.SpreadLaws.{Sized}
+use Rattle.marking.specs.Plain.{Plain}
 use Rattle.marking.specs.MarksLaws.{Marks, marks-same, marks-where, marks-then, marks-store}
+
+pub sound-plain : (o : Order) (bs : List ℕ) → sound o bs ≡ true → Plain bs
+sound-plain o bs s x k = object-facts o bs s x k .marking
 
 -- equal tests mark the same
 where-ext : (p q : ℕ → Bool) (m : Memory) → Sized m → ((x : ℕ) → x < numbers → p x ≡ q x) → markWhere p m ≡ markWhere q m
@@ -28,6 +33,16 @@ module _ (bs ws : List ℕ) (x : ℕ) (h : length bs ≡ 1024) where
   object-else : (v d y : ℕ) → objectOf (memory (setField bs x 5 v) ws) d y ≡ objectOf (memory bs ws) d y
   unfolding objectOf object isObject
   object-else v d y = rw (field-else bs x 5 v y 0 (omega arith) (omega arith) (inr (omega arith)), field-else bs x 5 v y 3 (omega arith) (omega arith) (inr (omega arith)))
+
+  -- a store to the marks leaves them plain where it puts 1 or meets no object
+  pub plain-put : (v : ℕ) → x < numbers → (kind bs x ≡ 2 → v ≡ 1) → Plain bs → Plain (setField bs x 5 v)
+  plain-put v l e p y k = ⊎-elim (λ q. inr (here (eqb-true y x q))) (λ q. rw (field-else bs x 5 v y 5 (omega arith) (omega arith) (inl (eqb-false y x q))) (p y kept)) (either (eqb y x))
+    where
+      kept : kind bs y ≡ 2
+      kept = sym (field-else bs x 5 v y 0 (omega arith) (omega arith) (inr (omega arith))) ∙ k
+
+      here : y ≡ x → field (setField bs x 5 v) y 5 ≡ 1
+      here q = rw q (field-same bs x 5 v (omega arith) ∙ e (ap (λ (z : ℕ). kind bs z) (sym q) ∙ kept))
 
   pub outside-is : markWhere (objectOf (memory (setField bs x 5 3) ws) x) (memory (setField bs x 5 3) ws) ≡ effect (mark-outside x) (memory bs ws)
   unfolding effect

@@ -4,6 +4,7 @@ pub mod WalkLaws
 pub mod Reports
 pub mod ReportLaws
 pub mod FirstLaws
+pub mod Plain
 pub mod MarksLaws
 pub mod EffectLaws
 pub mod Rounds

@@ -8,10 +8,10 @@ use Prim.Native.Nat.{ℕ, _+_, _*_, _/_, _%_, _≤_, _<_}
 use native.Mathlib.Omega.{arith}
 use lib.Dec.{eqb, leb}
 use lib.ListN.{length, getD, set}
-use lib.Seq.{ext-getD}
+use lib.Seq.{ext-getD, set-getD}
 use borrow.Author.Tests.{eqb-true, eqb-false, eq-eqb, ne-eqb, not-false, leb-true, le-leb, lt-leb}
 use Rattle.bits.specs.All.{one}
-use Rattle.bits.specs.AllLaws.{either, both-ways, and-l, and-r, and-true, and-false, or-false}
+use Rattle.bits.specs.AllLaws.{either, both-ways, and-true, and-false, or-false}
 use Rattle.records.specs.Records.{numbers, field, setField}
 use Rattle.records.specs.RecordLaws.{field-same, field-else, length-field}
 use Rattle.model.specs.State.{Memory, memory, marked}
@@ -110,13 +110,13 @@ module _ (bs ws : List ℕ) (x : ℕ) where
         new = λ y l d. let z : getD bs (8 * y + 5) 0 ≡ 0 = no-mark (memory bs ws) y d in z ∙ sym (rw (ne-eqb y x (λ q. e (ap (λ (k : ℕ). getD bs (8 * k + 5) 0) (sym q) ∙ z))));
       }
 
-  -- a mark where b holds and there is none
-  pub marks-when : (b : Bool) → length bs ≡ 1024 → x < numbers → (b && eqb (getD bs (8 * x + 5) 0) 0) ≡ true → Marks (memory bs ws) (λ y. b && eqb y x) (memory (set bs (8 * x + 5) 1) ws)
-  marks-when b h l e = rw (and-l b (eqb (getD bs (8 * x + 5) 0) 0) e) (marks-store h l (eqb-true _ 0 (and-r b (eqb (getD bs (8 * x + 5) 0) 0) e)))
-
-  pub marks-unless : (b : Bool) → (b && eqb (getD bs (8 * x + 5) 0) 0) ≡ false → Marks (memory bs ws) (λ y. b && eqb y x) (memory bs ws)
-  marks-unless true e = marks-there (eqb-false _ 0 e)
-  marks-unless false e = marks-none _
+  -- a store over marks of 0 or 1
+  pub marks-over : length bs ≡ 1024 → x < numbers → (field bs x 5 ≡ 0) ⊎ (field bs x 5 ≡ 1) → Marks (memory bs ws) (λ y. eqb y x) (memory (set bs (8 * x + 5) 1) ws)
+  unfolding field
+  marks-over h l (inl e) = marks-store h l e
+  marks-over h l (inr e) =
+      let s : set bs (8 * x + 5) 1 ≡ bs = ap (set bs (8 * x + 5)) (sym e) ∙ set-getD bs (8 * x + 5) 0 in
+      rw s (marks-there (λ z. omega arith))
 
 -- ---- a loop that marks: n is m with the marks of some of all, and the rest is left
 
@@ -142,6 +142,16 @@ left-less {rest′ = rest′} {q = q} g f e =
 pub left-none : {m n : Memory} {all rest : ℕ → Bool} → Sized m → Left m n all rest → ((x : ℕ) → x < numbers → rest x ≡ false) → n ≡ markWhere all m
 left-none {m} {all = all} h g e =
     marks-same h (g .marks) (marks-where all m h) (λ x l d. sym (or-false (g .done x)) ∙ ap (λ (b : Bool). g .done x || b) (sym (e x l)) ∙ g .parts x l)
+
+-- marks of 0 or 1 stay so
+pub left-plain : {m n : Memory} {all rest : ℕ → Bool} → Left m n all rest → (x : ℕ) → x < numbers → (field (m .bytes) x 5 ≡ 0) ⊎ (field (m .bytes) x 5 ≡ 1) → (field (n .bytes) x 5 ≡ 0) ⊎ (field (n .bytes) x 5 ≡ 1)
+unfolding marked
+left-plain {m} {n} g x l (inr e) = inr (g .marks .more .marks-kept x (rw e) ∙ e)
+left-plain {m} {n} g x l (inl e) = go (g .done x) (g .marks .new x l (rw e))
+  where
+    go : (b : Bool) → field (n .bytes) x 5 ≡ one b → (field (n .bytes) x 5 ≡ 0) ⊎ (field (n .bytes) x 5 ≡ 1)
+    go true f = inr f
+    go false f = inl f
 
 -- a loop over the numbers: those from x on that pass are x, if it does, and those after it
 pub from-here : (p : ℕ → Bool) (x y : ℕ) → (leb x y && p y) ≡ ((p x && eqb y x) || (leb (x + 1) y && p y))

@@ -11,10 +11,11 @@ ghost use mathlib.Core.List.{List, []};
 ghost use Prim.Native.Nat.{ℕ, _≤_, _<_};
 ghost use lib.ListN.{length};
 ghost use Rattle.bits.specs.All.{anyB};
-ghost use Rattle.records.specs.Records.{field};
+ghost use Rattle.records.specs.Records.{field, kind};
 ghost use Rattle.model.specs.State.{memory, marked, hasFlow};
 ghost use Rattle.model.specs.Effects.{markWhere, objectOf, effect, mark-outside, mark-thing};
 ghost use Rattle.marking.specs.Sets.{has, inWord};
+ghost use Rattle.marking.specs.Plain.{Plain};
 
 // The numbers of a word are marked. A mark that is there stays as it is.
 fn mark_word(bytes: &mut [u8], word: u64, first: usize)
@@ -52,14 +53,14 @@ fn is_object_of(bytes: &[u8], driver: u16, x: usize) -> bool
     bytes[at + DRIVER] as u16 == driver
 }
 
-// The objects of a driver are marked.
+// The objects of a driver are marked. Their marks are 0 or 1, so each gets a 1.
 pub fn mark_objects(bytes: &mut [u8], driver: u16)
-    requires { ⌜ length (now bytes) ≡ 1024 ⌝ }
+    requires { ⌜ (length (now bytes) ≡ 1024) × Plain (now bytes) ⌝ }
     ensures { λ _. ⌜ ((ws : List ℕ) → memory (now (bytes .exit)) ws ≡ markWhere (objectOf (memory (now (bytes .entry)) ws) driver) (memory (now (bytes .entry)) ws)) ⌝ }
 {
     let mut x = 0;
     while x < RECORDS {
-        if is_object_of(bytes, driver, x) & (bytes[RECORD_SIZE * x + MARKS] == 0) {
+        if is_object_of(bytes, driver, x) {
             bytes[RECORD_SIZE * x + MARKS] = 1;
         }
         x += 1;
@@ -71,7 +72,7 @@ const OUTSIDE: u8 = 3;
 
 // A task is marked from outside, and its objects are marked.
 pub fn mark_outside(bytes: &mut [u8], task: u16)
-    requires { ⌜ (length (now bytes) ≡ 1024) × (task < 128) ⌝ }
+    requires { ⌜ (length (now bytes) ≡ 1024) × (task < 128) × (kind (now bytes) task ≡ 1) × Plain (now bytes) ⌝ }
     ensures { λ _. ⌜ ((ws : List ℕ) → memory (now (bytes .exit)) ws ≡ effect (mark-outside task) (memory (now (bytes .entry)) ws)) ⌝ }
 {
     records::set_field(bytes, task, records::MARKS, OUTSIDE);
@@ -80,7 +81,7 @@ pub fn mark_outside(bytes: &mut [u8], task: u16)
 
 // An unmarked thing is marked and, for a task, its objects.
 pub fn mark_thing(bytes: &mut [u8], x: u16)
-    requires { ⌜ (length (now bytes) ≡ 1024) × (x < 128) × (field (now bytes) x 5 ≡ 0) ⌝ }
+    requires { ⌜ (length (now bytes) ≡ 1024) × (x < 128) × (field (now bytes) x 5 ≡ 0) × Plain (now bytes) ⌝ }
     ensures { λ _. ⌜ ((ws : List ℕ) → memory (now (bytes .exit)) ws ≡ effect (mark-thing x) (memory (now (bytes .entry)) ws)) ⌝ }
 {
     let drives = records::is_task(bytes, x);

@@ -7,18 +7,19 @@ use Rattle.model.specs.StateLaws.{used-below}
 use Rattle.model.specs.Effects.{effects}
 use Rattle.model.specs.Events.{step}
 use Rattle.model.specs.TableLaws.{done-tests}
-use Rattle.marking.specs.EffectLaws.{made, refused, step-refused}
+use Rattle.marking.specs.EffectLaws.{sound-plain, made, refused, step-refused}
 use Rattle.marking.proofs.step.Statement.{statement}
 use Rattle.marking.proofs.step.Tie as tie
 
 mark-thing-requires : tie.Need-mark-thing-requires
 unfolding step marked
 mark-thing-requires c κs =
-    let a = c .before .before .before .before .before .before .args in
+    let z = c .before .before .before .before .before .before in
+    let a = z .args in
     let m = memory (a .bytes .now) (a .words .now) in
     let v = c .before .before .step-verdict in
     let t = done-tests (step (a .order) m (a .x)) refl (rw (sym (v .ensures (a .order)) ∙ c .before .if1 .taken)) in
-    (search needs, used-below m (a .x) (search needs) (t .0), eqb-true _ 0 (not-false _ (not-true _ ((simp and-eq-true-iff at (t .1 .0)) .0))))
+    (search needs, used-below m (a .x) (search needs) (t .0), eqb-true _ 0 (not-false _ (not-true _ ((simp and-eq-true-iff at (t .1 .0)) .0))), sound-plain (a .order) (a .bytes .now) (z .pre .3))
 
 returns : tie.Need-returns
 unfolding step effects

@@ -1,18 +1,19 @@
 -- Before turn x the objects from x on are left to be marked.
 -- Assumes nothing.
-use mathlib.Core.Path.{_≡_, _∙_}
+use mathlib.Core.Path.{_≡_, sym, _∙_}
 use mathlib.Core.Logic.{⊎-elim}
-use mathlib.Core.Bool.{_&&_}
+use mathlib.Core.Bool.{true, _&&_, and-eq-true-iff}
 use mathlib.Core.List.{List, []}
 use Prim.Native.Nat.{ℕ, _-_, _≤_}
 use native.Mathlib.Omega.{arith}
 use lib.Dec.{leb, eqb}
 use lib.ListN.{length}
 use borrow.Author.Needs.{needs}
-use borrow.Author.Tests.{le-leb, lt-leb}
-use Rattle.model.specs.State.{memory, object}
+use borrow.Author.Tests.{eqb-true, le-leb, lt-leb}
+use Rattle.records.specs.Records.{kind, isObject}
+use Rattle.model.specs.State.{Memory, memory, object}
 use Rattle.model.specs.Effects.{objectOf}
-use Rattle.marking.specs.MarksLaws.{Marks, Left, left-all, left-from, left-less, left-none, from-here, marks-when, marks-unless, kept-objectOf}
+use Rattle.marking.specs.MarksLaws.{Marks, Left, left-all, left-from, left-less, left-none, left-plain, from-here, marks-none, marks-over, kept-objectOf}
 use Rattle.marking.proofs.marks.mark_objects.Statement.{statement}
 use Rattle.marking.proofs.marks.mark_objects.Tie as tie
 
@@ -33,25 +34,31 @@ is-object : (c : tie.After-is-object-of Inv-loop μ-loop) (ws : List ℕ)
 unfolding objectOf object
 is-object c ws = c .is-object-of .ensures ∙ kept-objectOf (c .before .before .before .loop .inv .2 ws .marks .more) _ _
 
+object-kind : (m : Memory) (d x : ℕ) → objectOf m d x ≡ true → kind (m .bytes) x ≡ 2
+unfolding objectOf object isObject
+object-kind m d x e = eqb-true _ 2 ((simp and-eq-true-iff at e) .0)
+
 one-marked : (c : tie.Joined1 Inv-loop μ-loop) (ws : List ℕ)
-    → Marks (memory (c .before .before .before .before .before .loop .bytes) ws)
-    (λ y. c .before .before .is-object-of .result && eqb y (c .before .before .before .before .before .loop .x))
+    → Marks (memory (c .before .before .before .before .loop .bytes) ws)
+    (λ y. c .before .is-object-of .result && eqb y (c .before .before .before .before .loop .x))
     (memory (c .if1 .bytes) ws)
 one-marked c ws =
-    let l = c .before .before .before .before .before .loop in
-    let b = c .before .before .is-object-of .result in
+    let l = c .before .before .before .before .loop in
+    let z = c .before .before .before .before .before .before in
+    let m = memory (z .args .bytes .now) ws in
     ⊎-elim
-    (λ w. rw (w .1) (marks-when (l .bytes) ws (l .x) b (search needs) (omega arith) (w .0 .taken)))
-    (λ w. rw (w .1) (marks-unless (l .bytes) ws (l .x) b (w .0 .left)))
+    (λ w. let k = object-kind m (z .args .driver) (l .x) (sym (is-object (c .before) ws) ∙ w .0 .taken) in
+    rw (w .1, w .0 .taken) (marks-over (l .bytes) ws (l .x) (search needs) (omega arith) (left-plain (l .inv .2 ws) (l .x) (omega arith) (z .pre .1 (l .x) k))))
+    (λ w. rw (w .1, w .0 .left) (marks-none _))
     (c .if1 .came)
 
 loop-again : tie.Need-loop-again Inv-loop μ-loop
 loop-again c =
-    let l = c .before .before .before .before .before .loop in
-    let a = c .before .before .before .before .before .before .before .args in (
+    let l = c .before .before .before .before .loop in
+    let a = c .before .before .before .before .before .before .args in (
       omega arith,
       one-marked c [] .more .length-kept ∙ l .inv .1,
-      λ ws. left-less (l .inv .2 ws) (one-marked c ws) (λ y b. rw (is-object (c .before .before) ws) (from-here (objectOf (memory (a .bytes .now) ws) (a .driver)) (l .x) y)),
+      λ ws. left-less (l .inv .2 ws) (one-marked c ws) (λ y b. rw (is-object (c .before) ws) (from-here (objectOf (memory (a .bytes .now) ws) (a .driver)) (l .x) y)),
     )
 
 same-length : tie.Need-same-length Inv-loop μ-loop
@@ -70,9 +77,6 @@ mark-objects-spec =
     μ-loop
     loop-holds
     (λ c κs. omega arith)
-    (λ c. omega arith)
-    (λ c. omega arith)
-    (λ c. omega arith)
     (λ c. omega arith)
     (λ c. omega arith)
     (λ c. omega arith)

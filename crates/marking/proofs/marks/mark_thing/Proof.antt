@@ -1,9 +1,15 @@
-use mathlib.Core.Path.{sym, _∙_}
+use mathlib.Core.List.{[]}
+use mathlib.Core.Path.{refl, sym, _∙_}
 use borrow.Author.Needs.{needs}
 use Rattle.model.specs.State.{task}
-use Rattle.marking.specs.EffectLaws.{thing-alone, thing-drives}
+use Rattle.marking.specs.EffectLaws.{plain-put, thing-alone, thing-drives}
 use Rattle.marking.proofs.marks.mark_thing.Statement.{statement}
 use Rattle.marking.proofs.marks.mark_thing.Tie as tie
+
+mark-objects-requires : tie.Need-mark-objects-requires
+mark-objects-requires c κs =
+    let z = c .before .before .before .before .before .before .before .before .before in
+    (search needs, rw (c .before .before .before .before .set-field .ensures) (plain-put (z .args .bytes .now) [] (z .args .x) (search needs) 1 (search needs) (λ k. refl) (z .pre .3)))
 
 returns : tie.Need-returns
 unfolding task
@@ -24,4 +30,4 @@ returns-2 c =
 pub mark-thing-spec : {M : Type 1} → statement M
 mark-thing-spec =
     tie.close
-    (tie.spec (λ c κs. search needs) (λ c κs. search needs) (λ c κs. search needs) (λ c. search needs) returns (λ c. search needs) returns-2)
+    (tie.spec (λ c κs. search needs) (λ c κs. search needs) mark-objects-requires (λ c. search needs) returns (λ c. search needs) returns-2)
