@@ -1,4 +1,4 @@
--- The numbers in groups of eight, and the test of a group.
+-- The numbers in groups of four, and the test of a group.
 -- Assumes nothing.
 use mathlib.Core.Path.{_≡_, sym, _∙_}
 use mathlib.Core.Bool.{Bool, true, false, _&&_, _||_}
@@ -16,10 +16,10 @@ use Rattle.records.specs.Records.{numbers, recordSize, freeRecord, taskR
 use Rattle.records.specs.HalfLaws.{word, free-word}
 
 abbrev pub groupSize : ℕ
-groupSize = 8
+groupSize = 4
 
 abbrev pub groups : ℕ
-groups = 16
+groups = 32
 
 -- the records of the group g are free
 unfoldable pub groupFree : List ℕ → ℕ → Bool

@@ -24,10 +24,10 @@ pub const NUMBERS: usize = 128;
 
 const RECORD_SIZE: usize = 8;
 
-// The numbers are tested in groups.
-const GROUP_SIZE: usize = 8;
+// The numbers are tested in groups, so that a run of free numbers costs few tests.
+const GROUP_SIZE: usize = 4;
 
-const GROUPS: usize = 16;
+const GROUPS: usize = 32;
 
 pub const BYTES: usize = 1024;
 
@@ -174,8 +174,11 @@ fn container_sound(bytes: &[u8], x: usize, container: usize) -> bool
     if container == ROOT_SIGN as usize {
         return true;
     }
+    if container == x {
+        return false;
+    }
     if container < NUMBERS {
-        (kind_at(bytes, container) == OBJECT) & (container != x)
+        kind_at(bytes, container) == OBJECT
     } else {
         false
     }
@@ -189,8 +192,11 @@ fn object_halves(bytes: &[u8], x: usize, low: usize, high: usize, count: usize) 
 {
     let driver = low / 0x100_0000;
     if (low / 0x100 % 0x100 < count) & (low / 0x1_0000 % 0x100 == 0) & (driver < NUMBERS) {
-        (kind_at(bytes, driver) == TASK)
-            & container_sound(bytes, x, high - high / 0x100 % 2 * 0x100)
+        if kind_at(bytes, driver) == TASK {
+            container_sound(bytes, x, high - high / 0x100 % 2 * 0x100)
+        } else {
+            false
+        }
     } else {
         false
     }
@@ -222,7 +228,7 @@ fn core_sound(bytes: &[u8], order: Order) -> bool
     is_task(bytes, 0) & (field(bytes, 0, LEVEL) as u16 == order.top)
 }
 
-// The records of the group g are all free: one test for eight numbers.
+// The records of the group g are all free: one test for four numbers.
 fn group_free(bytes: &[u8], g: usize) -> bool
     requires { ⌜ (length (now bytes) ≡ recordSize * numbers) × (g < groups) ⌝ }
     ensures { λ r. ⌜ r ≡ groupFree (now (bytes .entry)) g ⌝ }
@@ -232,10 +238,6 @@ fn group_free(bytes: &[u8], g: usize) -> bool
         & (word(bytes, x + 1) == 0)
         & (word(bytes, x + 2) == 0)
         & (word(bytes, x + 3) == 0)
-        & (word(bytes, x + 4) == 0)
-        & (word(bytes, x + 5) == 0)
-        & (word(bytes, x + 6) == 0)
-        & (word(bytes, x + 7) == 0)
 }
 
 // The records of the group g are sound.

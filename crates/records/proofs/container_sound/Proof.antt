@@ -1,5 +1,6 @@
+use mathlib.Core.Bool.{and-false, and-true}
 use borrow.Author.Needs.{needs}
-use borrow.Author.Tests.{ne-eqb}
+use borrow.Author.Tests.{eq-eqb, ne-eqb}
 use Rattle.records.specs.Records.{isObject}
 use Rattle.records.specs.RecordLaws.{field-past}
 use Rattle.records.specs.HalfLaws.{containerFits}
@@ -13,17 +14,22 @@ returns : tie.Need-returns
 unfolding containerFits
 returns c = rw (c .if1 .taken)
 
+returns-2 : tie.Need-returns-2
+unfolding containerFits
+returns-2 c = simp (ne-eqb _ _ (c .before .if1 .left), eq-eqb _ _ (c .if2 .taken), and-false)
+
 kind-at-requires : tie.Need-kind-at-requires
 kind-at-requires c κs = search needs
 
-returns-2 : tie.Need-returns-2
-unfolding containerFits isObject
-returns-2 c = simp (ne-eqb _ _ (c .before .before .if1 .left), c .kind-at .ensures)
-
 returns-3 : tie.Need-returns-3
 unfolding containerFits isObject
-returns-3 c =
-    simp (ne-eqb _ _ (c .before .if1 .left), field-past (c .before .before .before .args .bytes .now) _ 0 (c .before .before .before .pre) (c .if2 .left))
+returns-3 c = simp (ne-eqb _ _ (c .before .before .before .if1 .left), ne-eqb _ _ (c .before .before .if2 .left), c .kind-at .ensures, and-true)
+
+returns-4 : tie.Need-returns-4
+unfolding containerFits isObject
+returns-4 c =
+    let s = c .before .before in
+    simp (ne-eqb _ _ (s .if1 .left), field-past (s .before .before .args .bytes .now) _ 0 (s .before .before .pre) (c .if3 .left))
 
 pub container-sound-spec : {M : Type 1} → statement M
-container-sound-spec = tie.close (tie.spec cast-if1 returns kind-at-requires returns-2 returns-3)
+container-sound-spec = tie.close (tie.spec cast-if1 returns returns-2 kind-at-requires returns-3 returns-4)

@@ -29,33 +29,9 @@ add-word-3 c = search needs
 word-requires-4 : tie.Need-word-requires-4
 word-requires-4 c κs = search needs
 
-add-word-4 : tie.Need-add-word-4
-add-word-4 c = search needs
-
-word-requires-5 : tie.Need-word-requires-5
-word-requires-5 c κs = search needs
-
-add-word-5 : tie.Need-add-word-5
-add-word-5 c = search needs
-
-word-requires-6 : tie.Need-word-requires-6
-word-requires-6 c κs = search needs
-
-add-word-6 : tie.Need-add-word-6
-add-word-6 c = search needs
-
-word-requires-7 : tie.Need-word-requires-7
-word-requires-7 c κs = search needs
-
-add-word-7 : tie.Need-add-word-7
-add-word-7 c = search needs
-
-word-requires-8 : tie.Need-word-requires-8
-word-requires-8 c κs = search needs
-
 returns : tie.Need-returns
 unfolding groupFree allB
-returns c = simp (add-zero, c .word8 .ensures, c .before .word7 .ensures, c .before .before .word6 .ensures, c .before .before .before .word5 .ensures, c .before .before .before .before .word4 .ensures, c .before .before .before .before .before .word3 .ensures, c .before .before .before .before .before .before .word2 .ensures, c .before .before .before .before .before .before .before .word .ensures)
+returns c = simp (add-zero, c .word4 .ensures, c .before .word3 .ensures, c .before .before .word2 .ensures, c .before .before .before .word .ensures)
 
 pub group-free-spec : {M : Type 1} → statement M
 group-free-spec =
@@ -69,12 +45,4 @@ group-free-spec =
     word-requires-3
     add-word-3
     word-requires-4
-    add-word-4
-    word-requires-5
-    add-word-5
-    word-requires-6
-    add-word-6
-    word-requires-7
-    add-word-7
-    word-requires-8
     returns)
