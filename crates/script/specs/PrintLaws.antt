@@ -12,7 +12,9 @@ use lib.ListN.{length, getD, take, set, length-append}
 use lib.Seq.{sets, length-sets, take-suc, length-take-le}
 use borrow.Author.Tests.{lt-ltb, le-ltb}
 use Rattle.bits.specs.AllLaws.{either}
-use Rattle.script.specs.Print.{digit, decimal, Printed}
+use Rattle.script.specs.Print.{digit, decimal, replyLine, Printed}
+use Rattle.script.specs.declared.print.Reply.{Reply}
+use Rattle.script.specs.declared.print.Reply.the-variants.{Bad, Verdict, Rounds}
 
 pub sets-append : (l : List ℕ) (i : ℕ) (a b : List ℕ) → sets l i (a ++ b) ≡ sets (sets l i a) (i + length a) b
 sets-append l i [] b = rw add-zero
@@ -28,7 +30,7 @@ then {l} {m} {n} {s} {t} {at} p q =
       ends = q .ends ∙ omega (arith, p .ends, length-append s t);
     }
 
-printed-length : {l m s : List ℕ} {at e : ℕ} → Printed l at s m e → length m ≡ length l
+pub printed-length : {l m s : List ℕ} {at e : ℕ} → Printed l at s m e → length m ≡ length l
 printed-length {l} {m} {s} {at} p = ap length (p .stored) ∙ length-sets l at s
 
 pub one-more : (l : List ℕ) (at : ℕ) (t : List ℕ) (i : ℕ) → i < length t → set (sets l at (take i t)) (at + i) (getD t i 0) ≡ sets l at (take (i + 1) t)
@@ -49,7 +51,7 @@ pub three-digits : (n : ℕ) → 10 ≤ n → 100 ≤ n → decimal n ≡ digit 
 unfolding decimal
 three-digits n h l = rw (le-ltb _ _ h, le-ltb _ _ l)
 
-small : (n : ℕ) → length (decimal n) ≤ 3
+pub small : (n : ℕ) → length (decimal n) ≤ 3
 unfolding decimal
 small n =
     elim (either (ltb n 10)) [
@@ -62,3 +64,12 @@ number-within n p = (omega (arith, p .ends, small n), printed-length p)
 
 pub byte-within : {b : ℕ} {l m : List ℕ} {at e : ℕ} → Printed l at (b ∷ []) m e → (e ≡ at + 1) × (length m ≡ length l)
 byte-within p = (p .ends, printed-length p)
+
+reply-short : (r : Reply) → length (replyLine r) ≤ 8
+unfolding replyLine
+reply-short Bad = omega arith
+reply-short (Verdict v) = simp length-append (omega (arith, small v))
+reply-short (Rounds v n) = simp length-append (omega (arith, small v, small n))
+
+pub reply-within : (r : Reply) {l m : List ℕ} {at e : ℕ} → Printed l at (replyLine r) m e → (e ≤ at + 8) × (length m ≡ length l)
+reply-within r p = (omega (arith, p .ends, reply-short r), printed-length p)

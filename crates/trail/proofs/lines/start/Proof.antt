@@ -1,0 +1,35 @@
+use mathlib.Core.Path.{refl}
+use mathlib.Core.Bool.{cond}
+use lib.Dec.{eqb}
+use borrow.Author.Needs.{needs}
+use borrow.Author.Tests.{eq-eqb, ne-eqb}
+use Rattle.model.specs.declared.Call.the-variants.{Start}
+use Rattle.model.specs.State.{memory}
+use Rattle.model.specs.Verdicts.{granted}
+use Rattle.model.specs.Monitor.{perform}
+use Rattle.script.specs.declared.print.Reply.the-variants.{Verdict}
+use Rattle.trail.specs.Lines.{startedWith}
+use Rattle.trail.specs.LinesLaws.{answered-is}
+use Rattle.trail.proofs.lines.start.Statement.{statement}
+use Rattle.trail.proofs.lines.start.Tie as tie
+
+returns : tie.Need-returns
+unfolding startedWith
+returns c =
+    let p = c .before .before .before .before .before .before in
+    let a = p .before .before .before .before .before .before .args in
+    answered-is (perform (a .order) (memory (a .bytes .now) (a .words .now)) Start) (λ v n. Verdict v) (λ v. cond (eqb v granted) (a .order) (a .run .order)) (a .run .tally)
+    (p .perform .ensures .0) (p .perform .ensures .1) refl (rw (eq-eqb _ _ (c .if1 .taken)))
+
+returns-2 : tie.Need-returns-2
+unfolding startedWith
+returns-2 c =
+    let p = c .before .before .before .before .before .before .before in
+    let a = p .before .before .before .before .before .before .args in
+    answered-is (perform (a .order) (memory (a .bytes .now) (a .words .now)) Start) (λ v n. Verdict v) (λ v. cond (eqb v granted) (a .order) (a .run .order)) (a .run .tally)
+    (p .perform .ensures .0) (p .perform .ensures .1) refl (rw (ne-eqb _ _ (c .before .if1 .left)))
+
+pub start-spec : {M : Type 1} → statement M
+start-spec =
+    tie.close
+    (tie.spec (λ c κs. search needs) (λ c. search needs) (λ c. search needs) returns (λ c. search needs) (λ c. search needs) returns-2)

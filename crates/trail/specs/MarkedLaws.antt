@@ -1,0 +1,96 @@
+-- Laws of the line of the marked numbers.
+-- Assumes nothing.
+use mathlib.Core.Path.{_≡_, refl, ap, _∙_}
+use mathlib.Core.Logic.{inl, inr}
+use mathlib.Core.Bool.{Bool, true, false}
+use mathlib.Core.List.{List, [], _∷_, _++_, append-nil}
+use Prim.Native.Nat.{ℕ, zero, suc, _+_, _-_, _*_, _≤_, _<_}
+use native.Mathlib.Nat.{add-zero, add-suc}
+use native.Mathlib.Omega.{arith}
+use native.Mathlib.Numerals.{add-one}
+use lib.ListN.{length, length-append}
+use lib.Dec.{ltb}
+use lib.Seq.{append-snoc}
+use borrow.Author.Tests.{ltb-false}
+use Rattle.bits.specs.AllLaws.{either}
+use Rattle.model.specs.declared.Report.{Report}
+use Rattle.model.specs.Monitor.{nextMarked}
+use Rattle.marking.specs.FirstLaws.{First, first}
+use Rattle.script.specs.Print.{decimal, lineFeed, Printed}
+use Rattle.script.specs.PrintLaws.{then, small, printed-length}
+use Rattle.trail.specs.Marked.{markedWord, listed, isMarked, markedLine}
+
+-- numbers that do not pass add nothing
+listed-same : (p : ℕ → Bool) (n k : ℕ) → ((j : ℕ) → n ≤ j → j < n + k → p j ≡ false) → listed p (n + k) ≡ listed p n
+unfolding listed
+listed-same p n zero h = ap (listed p) (add-zero n)
+listed-same p n (suc k) h = ap (listed p) (add-suc n k) ∙ rw (h (n + k) (omega arith) (omega arith)) (append-nil (listed p (n + k)) ∙ listed-same p n k (λ j a b. h j a (omega arith)))
+
+pub listed-more : (p : ℕ → Bool) (n : ℕ) → p n ≡ true → listed p (n + 1) ≡ listed p n ++ 32 ∷ decimal n
+unfolding listed
+listed-more p n e = rw (add-one, e)
+
+pub listed-short : (p : ℕ → Bool) (n : ℕ) → length (listed p n) ≤ 4 * n
+unfolding listed
+listed-short p zero = omega arith
+listed-short p (suc n) =
+    let h = listed-short p n in
+    elim (either (p n)) [
+      | inl e ↦ rw e (simp length-append (omega (arith, small n)))
+      | inr e ↦ rw e (simp length-append (omega arith))
+    ]
+
+-- n is the next marked number from `from` on, or 128
+pub record IsNext (r : Report) (from n : ℕ) : Type 0 where
+  pub within : n ≤ 128
+  pub above : from ≤ n
+  pub same : listed (isMarked r) n ≡ listed (isMarked r) from
+  pub marked : n < 128 → isMarked r n ≡ true
+
+pub next : (r : Report) (from n : ℕ) → from ≤ 128 → n ≡ nextMarked r from → IsNext r from n
+unfolding nextMarked
+next r from n h e =
+    elim (either (ltb from 128)) [
+      | inl t ↦ by-first (rw (e, t) (first (128 - from) (isMarked r) from))
+      | inr t ↦ let z : from ≡ 128 = omega (arith, ltb-false from 128 t) in let y : n ≡ 128 = e ∙ rw t in record { within = omega arith; above = omega arith; same = rw (y, z); marked = λ l. absurd (omega arith) }
+    ]
+  where
+    by-first : First (128 - from) (isMarked r) from n → IsNext r from n
+    by-first f =
+        let z : from + (n - from) ≡ n = omega (arith, f .above) in
+        record {
+          within = omega (arith, f .within);
+          above = f .above;
+          same = rw z at (listed-same (isMarked r) from (n - from) (λ j a b. f .none j a (omega (arith, f .above))));
+          marked = λ l. f .passes (omega (arith, f .above));
+        }
+
+-- ---- what is printed when n is the next
+
+pub record UpTo (r : Report) (l : List ℕ) (at : ℕ) (m : List ℕ) (e n : ℕ) : Type 0 where
+  pub text : Printed l at (listed (isMarked r) n) m e
+  pub within : n ≤ 128
+  pub marked : n < 128 → isMarked r n ≡ true
+
+pub none-yet : (l : List ℕ) (at : ℕ) {r : Report} {n : ℕ} → IsNext r 0 n → UpTo r l at l at n
+unfolding listed
+none-yet l at i = record { text = rw (i .same) (record { stored = refl; ends = omega arith }); within = i .within; marked = i .marked }
+
+pub one-more : {r : Report} {l m m′ m″ : List ℕ} {at e e′ e″ n k : ℕ} → UpTo r l at m e n → n < 128 → Printed m e (32 ∷ []) m′ e′ → Printed m′ e′ (decimal n) m″ e″ → IsNext r (n + 1) k → UpTo r l at m″ e″ k
+one-more {r} {n = n} u h p q i =
+    record {
+      text = rw (i .same, listed-more (isMarked r) n (u .marked h), ← append-snoc (listed (isMarked r) n) 32 (decimal n)) (then (then (u .text) p) q);
+      within = i .within;
+      marked = i .marked;
+    }
+
+pub all-listed : {r : Report} {l m m′ m″ : List ℕ} {at e e′ n : ℕ} → Printed l 0 markedWord m at → UpTo r m at m′ e n → 128 ≤ n → Printed m′ e lineFeed m″ e′ → Printed l 0 (markedLine r) m″ e′
+unfolding markedLine
+all-listed {n = n} p u h q = let z : n ≡ 128 = omega (arith, u .within) in rw (← z) (then (then p (u .text)) q)
+
+pub up-to-within : {r : Report} {l m : List ℕ} {at e n : ℕ} → UpTo r l at m e n → (e ≤ at + 4 * n) × (length m ≡ length l)
+up-to-within {r} {n = n} u = (omega (arith, u .text .ends, listed-short (isMarked r) n), printed-length (u .text))
+
+pub marked-within : (r : Report) {l m : List ℕ} {e : ℕ} → Printed l 0 (markedLine r) m e → (e ≤ 1024) × (length m ≡ length l)
+unfolding markedLine markedWord
+marked-within r p = (omega (arith, p .ends, length-append (markedWord ++ listed (isMarked r) 128) lineFeed, length-append markedWord (listed (isMarked r) 128), listed-short (isMarked r) 128), printed-length p)
