@@ -1,3 +1,4 @@
+pub mod Buffers
 pub mod Lines
 pub mod LinesLaws
 pub mod Marked

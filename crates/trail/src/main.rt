@@ -2,14 +2,13 @@
 mod lines;
 mod marked;
 
-use levels::Order;
 use libc::STDIN_FILENO;
 use libc::STDOUT_FILENO;
 use lines::Run;
-use model::Tally;
 ghost use Prim.Native.Nat.{_+_, _≤_};
 ghost use mathlib.Core.Path.{_≡_};
 ghost use lib.ListN.{length};
+ghost use Rattle.trail.specs.Buffers.{outSize, Sized, Within};
 
 // How many bytes of a line are kept. They settle what it means, however long it is: script's law `long-lines`.
 const KEPT: usize = 128;
@@ -50,8 +49,8 @@ fn write_out(out: &[u8]) -> bool {
 
 // Room for an answer: what is there is written where the buffer is nearly full.
 fn with_room(out: &[u8], used: usize) -> Room
-    requires { ⌜ (length (now out) ≡ 4096) × (used ≤ 4096) ⌝ }
-    ensures { λ r. ⌜ r .used + 8 ≤ 4096 ⌝ }
+    requires { ⌜ (length (now out) ≡ outSize) × (used ≤ outSize) ⌝ }
+    ensures { λ r. ⌜ r .used + 8 ≤ outSize ⌝ }
 {
     if used > OUT - ANSWER {
         let ok = write_out(&out[..used]);
@@ -63,8 +62,8 @@ fn with_room(out: &[u8], used: usize) -> Room
 
 // A whole line is done and answered.
 fn end_line(line: &[u8], out: &mut [u8], bytes: &mut [u8], words: &mut [u64], state: State) -> State
-    requires { ⌜ (length (now out) ≡ 4096) × (state .used ≤ 4096) ⌝ }
-    ensures { λ r. ⌜ (r .filled ≡ 0) × (r .used ≤ 4096) ⌝ }
+    requires { ⌜ (length (now out) ≡ outSize) × Within state ⌝ }
+    ensures { λ r. ⌜ Within r ⌝ }
 {
     let before = state.run;
     let done = lines::do_line(line, bytes, words, before);
@@ -90,8 +89,8 @@ fn take_byte(
     words: &mut [u64],
     state: State,
 ) -> State
-    requires { ⌜ (length (now line) ≡ 128) × (length (now out) ≡ 4096) × (state .filled ≤ 128) × (state .used ≤ 4096) ⌝ }
-    ensures { λ r. ⌜ (r .filled ≤ 128) × (r .used ≤ 4096) ⌝ }
+    requires { ⌜ Sized (now line) (now out) × Within state ⌝ }
+    ensures { λ r. ⌜ Within r ⌝ }
 {
     let filled = state.filled;
     if b == b'\n' {
@@ -119,8 +118,8 @@ fn feed(
     words: &mut [u64],
     from: State,
 ) -> State
-    requires { ⌜ (length (now line) ≡ 128) × (length (now out) ≡ 4096) × (from .filled ≤ 128) × (from .used ≤ 4096) ⌝ }
-    ensures { λ r. ⌜ (r .filled ≤ 128) × (r .used ≤ 4096) ⌝ }
+    requires { ⌜ Sized (now line) (now out) × Within from ⌝ }
+    ensures { λ r. ⌜ Within r ⌝ }
 {
     let mut state = from;
     let mut i = 0;
@@ -147,8 +146,8 @@ fn written(state: State, more: bool, ok: bool) -> State
 
 // Answers what was read, then reads on.
 fn turn(line: &mut [u8], out: &mut [u8], bytes: &mut [u8], words: &mut [u64], state: State) -> State
-    requires { ⌜ (length (now line) ≡ 128) × (length (now out) ≡ 4096) × (state .filled ≤ 128) × (state .used ≤ 4096) ⌝ }
-    ensures { λ r. ⌜ (r .filled ≤ 128) × (r .used ≤ 4096) ⌝ }
+    requires { ⌜ Sized (now line) (now out) × Within state ⌝ }
+    ensures { λ r. ⌜ Within r ⌝ }
 {
     let used = state.used;
     if !write_out(&out[..used]) {
@@ -171,8 +170,8 @@ fn turn(line: &mut [u8], out: &mut [u8], bytes: &mut [u8], words: &mut [u64], st
 // A proved loop has to end, and nothing says that the input does. So the loop counts its turns down, from a number that no run uses
 // up.
 fn read_all(line: &mut [u8], out: &mut [u8], bytes: &mut [u8], words: &mut [u64], run: Run) -> State
-    requires { ⌜ (length (now line) ≡ 128) × (length (now out) ≡ 4096) ⌝ }
-    ensures { λ r. ⌜ (r .filled ≤ 128) × (r .used ≤ 4096) ⌝ }
+    requires { ⌜ Sized (now line) (now out) ⌝ }
+    ensures { λ r. ⌜ Within r ⌝ }
 {
     let mut state = State {
         run,
@@ -197,8 +196,8 @@ fn last_line(
     words: &mut [u64],
     state: State,
 ) -> State
-    requires { ⌜ (length (now out) ≡ 4096) × (state .used ≤ 4096) ⌝ }
-    ensures { λ r. ⌜ r .used ≤ 4096 ⌝ }
+    requires { ⌜ (length (now out) ≡ outSize) × Within state ⌝ }
+    ensures { λ r. ⌜ Within r ⌝ }
 {
     if line.len() == 0 {
         return state;
@@ -208,7 +207,7 @@ fn last_line(
 
 // The input is at its end: the last line, then the marked numbers.
 fn finish(line: &[u8], out: &mut [u8], bytes: &mut [u8], words: &mut [u64], from: State)
-    requires { ⌜ (length (now out) ≡ 4096) × (from .used ≤ 4096) ⌝ }
+    requires { ⌜ (length (now out) ≡ outSize) × Within from ⌝ }
 {
     let state = last_line(line, out, bytes, words, from);
     let used = state.used;
