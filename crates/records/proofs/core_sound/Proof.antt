@@ -14,7 +14,7 @@ cast-result c = search needs
 
 returns : tie.Need-returns
 unfolding coreRecord
-returns c = cc
+returns c = simp (c .before .before .is-task .ensures, c .before .field .ensures)
 
 pub core-sound-spec : {M : Type 1} → statement M
 core-sound-spec = tie.close (tie.spec is-task-requires field-requires cast-result returns)

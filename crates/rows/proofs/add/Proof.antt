@@ -1,3 +1,4 @@
+use mathlib.Core.Path.{_∙_}
 use borrow.Author.Needs.{needs}
 use Rattle.rows.specs.Rows.{addCell}
 use Rattle.rows.proofs.add.Statement.{statement}
@@ -5,7 +6,11 @@ use Rattle.rows.proofs.add.Tie as tie
 
 returns : tie.Need-returns
 unfolding addCell
-returns c = cc
+returns c =
+    let p = c .before .before in
+    let m = p .before in
+    let w = m .before .before in
+    p .put .ensures ∙ simp (m .mask .ensures, w .word .ensures, w .before .before .place-of .ensures)
 
 pub add-spec : {M : Type 1} → statement M
 add-spec =
