@@ -1,7 +1,7 @@
 -- The tables of the events of flows: each verdict is its decision's under the rows above it, and each list of effects is the code's.
 -- Assumes nothing.
 use mathlib.Core.Path.{_≡_, refl}
-use mathlib.Core.Bool.{not, _&&_}
+use mathlib.Core.Bool.{Bool, true, false, not, _&&_}
 use mathlib.Core.List.{[], _∷_}
 use Prim.Native.Nat.{ℕ}
 use lib.Dec.{ltb, eqb}
@@ -27,10 +27,12 @@ module _ (o : Order) (m : Memory) where
   unfolding verdictOf firstFailing unless invoke invokeDecision invokeDecided
   invoke-verdict a b = refl
 
-  pub find-verdict : (x z y : ℕ) → verdictOf (find o m x z y)
-      ≡ unless (task m x && task m z && inUse m y) row-number (unless (not (eqb x y)) row-place (unless (hasFlow m x z && hasFlow m z y) row-held granted))
+  -- from the test of the numbers and the rows below it
+  pub find-is : (x z y : ℕ) {named : Bool} {v row : ℕ} → v ≡ unless named row-number row → named ≡ (task m x && task m z && inUse m y)
+      → row ≡ unless (not (eqb x y)) row-place (unless (hasFlow m x z && hasFlow m z y) row-held granted)
+      → record { verdict = v; first = true; second = false } ≡ findJudged o m x z y
   unfolding verdictOf firstFailing unless find
-  find-verdict x z y = refl
+  find-is x z y v named row = rw (v, named, row)
 
   -- an access is looked for in its table, past which there is none
   module _ (l : length (m .bytes) ≡ 1024) where

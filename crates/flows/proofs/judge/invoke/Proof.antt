@@ -1,3 +1,4 @@
+use mathlib.Core.Path.{refl}
 use borrow.Author.Needs.{needs}
 use Rattle.model.specs.State.{task, marked}
 use Rattle.flows.specs.Judged.{invokeDecided}
@@ -7,7 +8,16 @@ use Rattle.flows.proofs.judge.invoke.Tie as tie
 
 returns : tie.Need-returns
 unfolding task marked invokeDecided
-returns c = λ ws. rw invoke-verdict (cc)
+returns c =
+    λ ws. rw invoke-verdict
+    (simp (
+      c .unless .ensures,
+      c .before .is-task2 .ensures,
+      c .before .before .is-task .ensures,
+      c .before .before .before .invoke .ensures,
+      c .before .before .before .before .marked .ensures,
+      c .before .before .before .before .before .below .ensures,
+    ) refl)
 
 pub invoke-spec : {M : Type 1} → statement M
 invoke-spec =
