@@ -1,3 +1,4 @@
+use mathlib.Core.Path.{refl}
 use borrow.Author.Needs.{needs}
 use Rattle.model.specs.State.{marked}
 use Rattle.creation.specs.CreationLaws.{create-verdict}
@@ -8,7 +9,15 @@ returns : tie.Need-returns
 unfolding marked
 returns c =
     let l = c .before .before .before .before .before .before .before .before .pre in
-    rw create-verdict (cc)
+    rw create-verdict
+    (simp (
+      c .create-rows .ensures,
+      c .before .scaled .ensures,
+      c .before .before .marked .ensures,
+      c .before .before .before .level-below3 .ensures,
+      c .before .before .before .before .level-below2 .ensures,
+      c .before .before .before .before .before .level-below .ensures,
+    ) refl)
 
 pub create-spec : {M : Type 1} → statement M
 create-spec =
