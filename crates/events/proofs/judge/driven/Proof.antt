@@ -1,3 +1,4 @@
+use mathlib.Core.Path.{refl}
 use borrow.Author.Needs.{needs}
 use Rattle.events.specs.Judged.{driven}
 use Rattle.events.proofs.judge.driven.Statement.{statement}
@@ -5,7 +6,7 @@ use Rattle.events.proofs.judge.driven.Tie as tie
 
 returns : tie.Need-returns
 unfolding driven
-returns c = cc
+returns c = simp (c .unless2 .ensures, c .before .unless .ensures, c .before .before .names .ensures) refl
 
 pub driven-spec : {M : Type 1} → statement M
 driven-spec = tie.close (tie.spec (λ c κs. search needs) (λ c κs. search needs) (λ c κs. search needs) returns)

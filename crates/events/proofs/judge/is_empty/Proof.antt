@@ -1,8 +1,9 @@
 -- Before turn y none of the first y numbers is an object in x.
 -- Assumes nothing.
 use mathlib.Core.Path.{_≡_, sym, ap, _∙_}
-use mathlib.Core.Bool.{false, not, _&&_}
-use Prim.Native.Nat.{_≤_, _-_}
+use mathlib.Core.Bool.{Bool, false, not, _&&_}
+use mathlib.Core.List.{List}
+use Prim.Native.Nat.{ℕ, _≤_, _-_}
 use native.Mathlib.Omega.{arith}
 use lib.Dec.{eqb}
 use Rattle.bits.specs.All.{anyB}
@@ -12,8 +13,11 @@ use Rattle.events.specs.Judged.{isEmpty}
 use Rattle.events.proofs.judge.is_empty.Statement.{statement}
 use Rattle.events.proofs.judge.is_empty.Tie as tie
 
+abbrev inside : List ℕ → ℕ → ℕ → Bool
+inside bytes x y = isObject bytes y && eqb (field bytes y 4) x
+
 abbrev Inv-loop : tie.InvT-loop
-Inv-loop bytes x y₀ y = (y ≤ 128) × (anyB y (λ z. isObject bytes z && eqb (field bytes z 4) x) ≡ false)
+Inv-loop bytes x y₀ y = (y ≤ 128) × (anyB y (inside bytes x) ≡ false)
 
 abbrev μ-loop : tie.MeasureT-loop
 μ-loop bytes x y₀ y = 128 - y
@@ -23,10 +27,15 @@ loop-holds c = (omega arith, any-none _)
 
 returns : tie.Need-returns Inv-loop μ-loop
 unfolding isEmpty
-returns c = sym (ap not (any-i _ _ (c .before .before .before .before .loop .y) (omega arith) (cc)))
+returns c =
+    let test = simp (c .before .names .ensures, c .before .before .is-object .ensures) at (c .if1 .taken) in
+    let args = c .before .before .before .before .before .before .args in
+    sym (ap not (any-i _ (inside (args .bytes .now) (args .x)) _ (omega arith) test))
 
 loop-again : tie.Need-loop-again Inv-loop μ-loop
-loop-again c = (omega arith, any-more _ _ ∙ rw (c .before .before .before .before .loop .inv .1) (cc))
+loop-again c =
+    let test = simp (c .before .names .ensures, c .before .before .is-object .ensures) at (c .if1 .left) in
+    (omega arith, any-more _ _ ∙ rw (c .before .before .before .before .loop .inv .1) test)
 
 returns-2 : tie.Need-returns-2 Inv-loop μ-loop
 unfolding isEmpty
