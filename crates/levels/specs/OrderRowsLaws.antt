@@ -4,10 +4,10 @@ use mathlib.Core.Path.{_≡_, refl, sym, ap, _∙_, subst}
 use mathlib.Core.Logic.{_⊎_, inl, inr, ⊎-elim}
 use mathlib.Core.Bool.{Bool, true, false, not, _&&_, _||_, true≢false, and-eq-true-iff}
 use mathlib.Core.List.{List}
-use Prim.Native.Nat.{ℕ, _+_, _-_, _/_, _%_, _^_, _≤_, _<_}
-use native.Mathlib.Nat.{lt-of-not-le}
+use Prim.Native.Nat.{ℕ, zero, suc, _+_, _-_, _/_, _%_, _^_, _≤_, _<_}
+use native.Mathlib.Nat.{lt-of-not-le, not-suc-le-zero}
 use native.Mathlib.Omega.{arith}
-use lib.Bits.{bitAnd, bitOr, or-lt, and-le-l}
+use lib.Bits.{bitAnd, bitOr, or-lt, or-add-and, and-le-l, and-le-r}
 use lib.Count.{trailingZeros}
 use lib.Dec.{ltb, eqb}
 use lib.ListN.{getD}
@@ -16,11 +16,11 @@ use borrow.Author.Tests.{ltb-true, lt-ltb, leb-true, le-leb, eqb-true, eqb-false
 use Rattle.bits.specs.Bit.{bit}
 use Rattle.bits.specs.BitLaws.{bit-and, bit-or, bit-not, bit-pow, bit-zero, bit-below, bit-ext, bit-rest, trailing-set, trailing-lt}
 use Rattle.bits.specs.All.{allB, _⇒_}
-use Rattle.bits.specs.AllLaws.{and-i, and-l, and-r, and-true, either, both-ways, not-so, implies, implied, all-at, all-i, all-fails, or-l, or-r}
+use Rattle.bits.specs.AllLaws.{and-i, and-l, and-r, and-false, either, both-ways, not-so, implies, implied, all-at, all-i, all-fails, or-l, or-r}
 use Rattle.levels.specs.declared.Order.{Order}
 use Rattle.levels.specs.Order.{mostLevels, related, inOrder, atOrBelow, countFits, reflexive, transitive, antisymmetric, belowTop, clearOutside, orderPasses}
 use Rattle.levels.specs.OrderLaws.{IsOrder, is-order, both-in, at-i, at-related}
-use Rattle.levels.specs.OrderRows.{within, closed, above, rowFits, levelPasses, rowPasses, rowsPass}
+use Rattle.levels.specs.OrderRows.{RowsFit, within, closed, Covered, AllCovered, above, rowFits, levelPasses, LevelCovered, restEmpty, rowsPass}
 
 -- ---- bits
 
@@ -55,39 +55,111 @@ within-i rows w b hr hw h =
     eq-eqb _ w (bit-ext 16 (bitOr (getD rows b 0) w) w (or-lt 16 (getD rows b 0) w hr hw) hw
     (λ c l. bit-or (getD rows b 0) w c ∙ or-keeps (bit (getD rows b 0) c) (bit w c) (h c)))
 
+closed-i : (rows : List ℕ) (w : ℕ) → ((b : ℕ) → b < 16 → bit w b ≡ true → within rows w b ≡ true) → closed rows w ≡ true
+unfolding closed
+closed-i rows w h = all-i mostLevels _ (λ b l. implied (bit w b) (within rows w b) (h b l))
+
+closed-at : (rows : List ℕ) (w b : ℕ) → closed rows w ≡ true → b < 16 → bit w b ≡ true → within rows w b ≡ true
+unfolding closed
+closed-at rows w b e l = implies (bit w b) (within rows w b) (all-at mostLevels (λ b. bit w b ⇒ within rows w b) e b l)
+
 bit-above : (rows : List ℕ) (a b : ℕ) → a < 16 → b < 16 → bit (above rows a) b ≡ (bit (getD rows a 0) b && not (eqb b a))
 unfolding above
 bit-above rows a b la lb =
     bit-and (getD rows a 0) ((2 ^ 16 - 1) - 2 ^ a) b
     ∙ ap (λ (x : Bool). bit (getD rows a 0) b && x) (bit-not 16 (2 ^ a) b (pow-lt la) lb ∙ ap not (bit-pow a b))
 
--- ---- the loop over the levels of w: those left are of w, and those of w that are not left are within w
+above-row : (rows : List ℕ) (a b : ℕ) → bit (above rows a) b ≡ true → bit (getD rows a 0) b ≡ true
+unfolding above
+above-row rows a b e = and-l (bit (getD rows a 0) b) _ (sym (bit-and (getD rows a 0) ((2 ^ 16 - 1) - 2 ^ a) b) ∙ e)
+
+above-le : (rows : List ℕ) (a : ℕ) → above rows a ≤ getD rows a 0
+unfolding above
+above-le rows a = and-le-l (getD rows a 0) ((2 ^ 16 - 1) - 2 ^ a)
+
+above-lt : (rows : List ℕ) (a : ℕ) → RowsFit rows → above rows a < 2 ^ 16
+above-lt rows a fits = omega (arith, above-le rows a, fits a)
+
+-- a level c above a, its row within what is above a, has less above it
+above-less : (rows : List ℕ) (a c : ℕ) → c < 16 → bit (above rows a) c ≡ true → within rows (above rows a) c ≡ true → above rows c < above rows a
+unfolding within
+above-less rows a c l p e =
+    let row = getD rows c 0 in
+    let w = above rows a in
+    let not-in : bit (above rows c) c ≡ false = bit-above rows c c l l ∙ rw (eq-eqb c c refl) (and-false (bit row c)) in
+    let other : above rows c ≡ w → ⊥ = λ q. true≢false (sym p ∙ ap (λ (x : ℕ). bit x c) (sym q) ∙ not-in) in
+    omega (arith, other, above-le rows c, or-add-and row w, and-le-r row w, eqb-true _ w e)
+
+-- ---- the loop over the levels of w: those left are of w, and those of w that are not left are covered
 
 pub record Passed (rows : List ℕ) (w left : ℕ) : Type 0 where
+  pub fits : left < 2 ^ 16
   pub of-w : (c : ℕ) → bit left c ≡ true → bit w c ≡ true
-  pub done : (c : ℕ) → bit w c ≡ true → (bit left c || within rows w c) ≡ true
+  pub done : (c : ℕ) → bit w c ≡ true → (bit left c ≡ true) ⊎ Covered rows w c
+
+pub rest-less : (left x : ℕ) → 0 < left → bitAnd (bitAnd left (left - 1)) x < left
+rest-less left x some = omega (arith, and-le-l (bitAnd left (left - 1)) x, and-le-r left (left - 1))
 
 module _ (rows : List ℕ) (w : ℕ) where
-  pub passed-none : Passed rows w w
-  passed-none = record { of-w = λ c p. p; done = λ c p. or-l (bit w c) (within rows w c) p }
+  pub passed-none : w < 2 ^ 16 → Passed rows w w
+  passed-none l = record { fits = l; of-w = λ c p. p; done = λ c p. inl p }
 
-  pub passed-all : Passed rows w 0 → closed rows w ≡ true
-  unfolding closed
-  passed-all s = all-i mostLevels _ (λ c l. implied (bit w c) (within rows w c) (λ p. ap (λ (x : Bool). x || within rows w c) (sym (bit-zero c)) ∙ s .done c p))
+  pub passed-all : Passed rows w 0 → AllCovered rows w
+  passed-all s c p = ⊎-elim (λ q. absurd (true≢false (sym q ∙ bit-zero c))) (λ q. q) (s .done c p)
 
-  module _ (left : ℕ) (fits : left < 2 ^ 16) (some : 0 < left) (s : Passed rows w left) where
+  module _ (left : ℕ) (some : 0 < left) (s : Passed rows w left) where
     pub passed-fails : within rows w (trailingZeros 16 left) ≡ false → closed rows w ≡ false
     unfolding closed
-    passed-fails e =
-        let b = trailingZeros 16 left in
-        all-fails mostLevels _ b (trailing-lt 16 left fits some) (rw (s .of-w b (trailing-set 16 left fits some), e))
+    passed-fails e = all-fails mostLevels _ (trailingZeros 16 left) (trailing-lt 16 left (s .fits) some) (rw (s .of-w _ (trailing-set 16 left (s .fits) some), e))
 
-    pub passed-more : within rows w (trailingZeros 16 left) ≡ true → Passed rows w (bitAnd left (left - 1))
-    passed-more e = record { of-w = λ c p. s .of-w c (and-l (bit left c) _ (sym (bit-rest 16 left c fits some) ∙ p)); done = λ c p. go c p (either (eqb c (trailingZeros 16 left))) }
+    pub passed-more : getD rows (trailingZeros 16 left) 0 < 2 ^ 16 → within rows w (trailingZeros 16 left) ≡ true
+        → Passed rows w (bitAnd (bitAnd left (left - 1)) ((2 ^ 16 - 1) - getD rows (trailingZeros 16 left) 0))
+    unfolding Covered
+    passed-more h e =
+        record {
+          fits = omega (arith, rest-less left ((2 ^ 16 - 1) - row) some, s .fits);
+          of-w = λ c p. s .of-w c (and-l (bit left c) _ (sym (bit-rest 16 left c (s .fits) some) ∙ and-l (bit (bitAnd left (left - 1)) c) _ (sym (bit-and _ _ c) ∙ p)));
+          done = λ c p. ⊎-elim (λ q. go c q (either (eqb c b)) (either (bit row c))) inr (s .done c p);
+        }
       where
-        go : (c : ℕ) → bit w c ≡ true → (eqb c (trailingZeros 16 left) ≡ true) ⊎ (eqb c (trailingZeros 16 left) ≡ false) → (bit (bitAnd left (left - 1)) c || within rows w c) ≡ true
-        go c p (inl q) = or-r (bit (bitAnd left (left - 1)) c) (within rows w c) (ap (within rows w) (eqb-true _ _ q) ∙ e)
-        go c p (inr q) = rw (bit-rest 16 left c fits some, q, and-true (bit left c)) (s .done c p)
+        b : ℕ
+        b = trailingZeros 16 left
+
+        row : ℕ
+        row = getD rows b 0
+
+        go : (c : ℕ) → bit left c ≡ true → (eqb c b ≡ true) ⊎ (eqb c b ≡ false) → (bit row c ≡ true) ⊎ (bit row c ≡ false)
+            → (bit (bitAnd (bitAnd left (left - 1)) ((2 ^ 16 - 1) - row)) c ≡ true) ⊎ Covered rows w c
+        go c q (inl t) u = inr (inl (ap (within rows w) (eqb-true c b t) ∙ e))
+        go c q (inr t) (inl u) = inr (inr (b, s .of-w b (trailing-set 16 left (s .fits) some), e, u))
+        go c q (inr t) (inr u) = inl (bit-and (bitAnd left (left - 1)) ((2 ^ 16 - 1) - row) c ∙ rw (bit-rest 16 left c (s .fits) some, q, t, bit-not 16 row c h (bit-below 16 left c (s .fits) q), u))
+
+-- ---- where all levels are covered, what is above each is closed
+
+module _ (rows : List ℕ) (count top : ℕ) (fits : RowsFit rows) (few : count ≤ 16) (h : (a : ℕ) → a < count → LevelCovered rows count top a) where
+  -- by the size of what is above a: a level b passed over is above another one, c, which has less above it
+  covered-closed : (n a : ℕ) → a < count → above rows a < n → closed rows (above rows a) ≡ true
+  unfolding Covered rowFits
+  covered-closed zero a la l = absurd (not-suc-le-zero l)
+  covered-closed (suc n) a la l =
+      closed-i rows w (λ b lb p. ⊎-elim (λ q. q) (λ q. over b lb (q .0) (q .1) (q .2) (q .3) (λ lc m. covered-closed n (q .0) lc (omega (arith, m))) (either (eqb b (q .0)))) (h a la .1 b p))
+    where
+      w : ℕ
+      w = above rows a
+
+      over : (b : ℕ) → b < 16 → (c : ℕ) → bit w c ≡ true → within rows w c ≡ true → bit (getD rows c 0) b ≡ true
+          → (c < count → above rows c < w → closed rows (above rows c) ≡ true) → (eqb b c ≡ true) ⊎ (eqb b c ≡ false) → within rows w b ≡ true
+      over b lb c p e q rest (inl t) = ap (within rows w) (eqb-true b c t) ∙ e
+      over b lb c p e q rest (inr t) =
+          let v = above rows c in
+          let lc = short-at count (getD rows a 0) c (eqb-true _ 0 ((simp and-eq-true-iff at (h a la .0)) .0 .0)) (above-row rows a c p) in
+          let lc′ : c < 16 = omega (arith, few) in
+          let f = closed-at rows v b (rest lc (above-less rows a c lc′ p e)) lb (bit-above rows c b lc′ lb ∙ rw (q, t)) in
+          within-i rows w b (fits b) (above-lt rows a fits) (λ x r. within-at rows w c e x (above-row rows c x (within-at rows v b f x r)))
+
+  pub covered-pass : allB count (λ a. levelPasses rows count top a) ≡ true
+  unfolding levelPasses
+  covered-pass = all-i count _ (λ a l. and-i (h a l .0) (covered-closed (above rows a + 1) a l (omega arith)))
 
 -- ---- the two tests agree
 
@@ -127,23 +199,23 @@ order-inside o ok a b la lb e =
     let q = implies (related o a b) (inOrder o a && inOrder o b) (all-at mostLevels (λ b. related o a b ⇒ (inOrder o a && inOrder o b)) at-a b lb) e in
     (ltb-true _ _ (and-l (inOrder o a) (inOrder o b) q), ltb-true _ _ (and-r (inOrder o a) (inOrder o b) q))
 
-module _ (o : Order) (fits : (a : ℕ) → getD (o .rows) a 0 < 2 ^ 16) where
+module _ (o : Order) (fits : RowsFit (o .rows)) where
   module _ (ok : rowsPass (o .rows) (o .count) (o .top) ≡ true) where
     few : o .count ≤ mostLevels
     unfolding rowsPass
-    few = leb-true _ _ ((simp and-eq-true-iff at ok) .0 .0)
+    few = leb-true _ _ ((simp and-eq-true-iff at ok) .0 .0 .0)
 
     top-in : o .top < o .count
     unfolding rowsPass
-    top-in = ltb-true _ _ ((simp and-eq-true-iff at ok) .0 .1)
-
-    row-at : (a : ℕ) → a < mostLevels → rowPasses (o .rows) (o .count) (o .top) a ≡ true
-    unfolding rowsPass
-    row-at a l = all-at mostLevels _ ((simp and-eq-true-iff at ok) .1) a l
+    top-in = ltb-true _ _ ((simp and-eq-true-iff at ok) .0 .0 .1)
 
     level-at : (a : ℕ) → a < o .count → levelPasses (o .rows) (o .count) (o .top) a ≡ true
-    unfolding rowPasses
-    level-at a l = rw (lt-ltb a (o .count) l) at (row-at a (omega (arith, few)))
+    unfolding rowsPass
+    level-at a l = all-at (o .count) _ ((simp and-eq-true-iff at ok) .0 .1) a l
+
+    rest-at : (a : ℕ) → a < mostLevels → (ltb a (o .count) || eqb (getD (o .rows) a 0) 0) ≡ true
+    unfolding rowsPass restEmpty
+    rest-at a l = all-at mostLevels _ ((simp and-eq-true-iff at ok) .1) a l
 
     own : (a : ℕ) → a < o .count → related o a a ≡ true
     unfolding levelPasses rowFits
@@ -155,22 +227,21 @@ module _ (o : Order) (fits : (a : ℕ) → getD (o .rows) a 0 < 2 ^ 16) where
 
     -- what is at or above b, which is strictly above a, is strictly above a
     step : (a b c : ℕ) → a < o .count → b < mostLevels → eqb b a ≡ false → related o a b ≡ true → related o b c ≡ true → (related o a c && not (eqb c a)) ≡ true
-    unfolding levelPasses closed
+    unfolding levelPasses
     step a b c la lb n e f =
         let w = above (o .rows) a in
         let la′ : a < 16 = omega (arith, few) in
-        let q = all-at mostLevels (λ b. bit w b ⇒ within (o .rows) w b) ((simp and-eq-true-iff at (level-at a la)) .1) b lb in
-        let p : bit w b ≡ true = bit-above (o .rows) a b la′ lb ∙ rw (e, n) in
-        sym (bit-above (o .rows) a c la′ (bit-below 16 _ c (fits b) f)) ∙ within-at (o .rows) w b (implies (bit w b) (within (o .rows) w b) q p) c f
+        let q = closed-at (o .rows) w b ((simp and-eq-true-iff at (level-at a la)) .1) lb (bit-above (o .rows) a b la′ lb ∙ rw (e, n)) in
+        sym (bit-above (o .rows) a c la′ (bit-below 16 _ c (fits b) f)) ∙ within-at (o .rows) w b q c f
 
     rows-inside : Inside o
-    unfolding Inside rowPasses levelPasses rowFits
+    unfolding Inside levelPasses rowFits
     rows-inside a b la lb e = go (either (ltb a (o .count)))
       where
         go : (ltb a (o .count) ≡ true) ⊎ (ltb a (o .count) ≡ false) → (a < o .count) × (b < o .count)
         go (inl l) = let la = ltb-true a (o .count) l in (la, short-at (o .count) _ b (eqb-true _ 0 ((simp and-eq-true-iff at (level-at a la)) .0 .0 .0)) e)
         go (inr l) =
-            let z : getD (o .rows) a 0 ≡ 0 = eqb-true _ 0 (rw l at (row-at a la)) in
+            let z : getD (o .rows) a 0 ≡ 0 = eqb-true _ 0 (rw l at (rest-at a la)) in
             absurd (true≢false (sym e ∙ ap (λ (x : ℕ). bit x b) z ∙ bit-zero b))
 
     rows-order : IsOrder o
@@ -199,13 +270,9 @@ module _ (o : Order) (fits : (a : ℕ) → getD (o .rows) a 0 < 2 ^ 16) where
     in-top : o .top < o .count
     in-top = both-in o 0 (o .top) (is .upper 0 (is .some)) .1
 
-    above-lt : (a : ℕ) → above (o .rows) a < 2 ^ 16
-    unfolding above
-    above-lt a = omega (arith, and-le-l (getD (o .rows) a 0) ((2 ^ 16 - 1) - 2 ^ a), fits a)
-
     above-closed : (a : ℕ) → a < o .count → closed (o .rows) (above (o .rows) a) ≡ true
-    unfolding closed Inside
-    above-closed a la = all-i mostLevels _ (λ b lb. implied (bit w b) (within (o .rows) w b) (λ p. within-i (o .rows) w b (fits b) (above-lt a) (λ c q. reach b lb p c q)))
+    unfolding Inside
+    above-closed a la = closed-i (o .rows) w (λ b lb p. within-i (o .rows) w b (fits b) (above-lt (o .rows) a fits) (reach b lb p))
       where
         w : ℕ
         w = above (o .rows) a
@@ -224,29 +291,32 @@ module _ (o : Order) (fits : (a : ℕ) → getD (o .rows) a 0 < 2 ^ 16) where
             ∙ and-i (at-related o a c (is .trans a b c e f)) (ap not (not-so (eqb c a) (λ t.
             eqb-false b a (not-true _ (and-r (related o a b) _ ab)) (sym (is .anti a b e (subst (λ (x : ℕ). atOrBelow o b x ≡ true) (eqb-true c a t) f))))))
 
-    row-passes : (a : ℕ) → a < mostLevels → rowPasses (o .rows) (o .count) (o .top) a ≡ true
-    unfolding rowPasses levelPasses rowFits Inside
-    row-passes a la = go (either (ltb a (o .count)))
-      where
-        go : (ltb a (o .count) ≡ true) ⊎ (ltb a (o .count) ≡ false) → rowPasses (o .rows) (o .count) (o .top) a ≡ true
-        go (inl l) =
-            let lc = ltb-true a (o .count) l in
-            rw l (simp and-eq-true-iff (
-              (
-                (
-                  eq-eqb _ 0 (short-i (o .count) (getD (o .rows) a 0) (fits a) (λ b lb e. order-inside o ok a b la lb e .1)),
-                  at-related o a a (is .self a lc),
-                ),
-                at-related o a (o .top) (is .upper a lc),
-              ),
-              above-closed a lc,
-            ))
-        go (inr l) =
-            rw l (eq-eqb _ 0 (bit-ext 16 (getD (o .rows) a 0) 0 (fits a) (omega arith) (λ b lb.
-            not-so (bit (getD (o .rows) a 0) b) (λ e. omega (arith, ltb-false a (o .count) l, order-inside o ok a b la lb e .0)) ∙ sym (bit-zero b))))
+    level-passes : (a : ℕ) → a < o .count → levelPasses (o .rows) (o .count) (o .top) a ≡ true
+    unfolding levelPasses rowFits Inside
+    level-passes a l =
+        simp and-eq-true-iff (
+          (
+            (
+              eq-eqb _ 0 (short-i (o .count) (getD (o .rows) a 0) (fits a) (λ b lb e. order-inside o ok a b (omega (arith, is .few)) lb e .1)),
+              at-related o a a (is .self a l),
+            ),
+            at-related o a (o .top) (is .upper a l),
+          ),
+          above-closed a l,
+        )
+
+    rest-empty : restEmpty (o .rows) (o .count) ≡ true
+    unfolding restEmpty Inside
+    rest-empty = all-i mostLevels _ (λ a la. ⊎-elim (or-l (ltb a (o .count)) _) (λ l.
+        or-r (ltb a (o .count)) _ (eq-eqb _ 0 (bit-ext 16 (getD (o .rows) a 0) 0 (fits a) (omega arith) (λ b lb.
+        not-so (bit (getD (o .rows) a 0) b) (λ e. omega (arith, ltb-false a (o .count) l, order-inside o ok a b la lb e .0)) ∙ sym (bit-zero b)))))
+        (either (ltb a (o .count))))
 
   pub by-rows : rowsPass (o .rows) (o .count) (o .top) ≡ orderPasses o
   unfolding rowsPass
   by-rows =
       both-ways _ _ (λ e. order-passes o (rows-order e) (rows-inside e))
-      (λ e. simp and-eq-true-iff ((le-leb (o .count) mostLevels (is e .few), lt-ltb (o .top) (o .count) (in-top e)), all-i mostLevels _ (row-passes e)))
+      (λ e. simp and-eq-true-iff (
+        ((le-leb (o .count) mostLevels (is e .few), lt-ltb (o .top) (o .count) (in-top e)), all-i (o .count) _ (level-passes e)),
+        rest-empty e,
+      ))

@@ -1,8 +1,9 @@
 // The order of the levels, by value.
 ghost use mathlib.Core.Path.{_≡_};
+ghost use mathlib.Core.Bool.{true, false};
 ghost use Prim.Native.Nat.{_≤_, _<_};
 ghost use Rattle.levels.specs.Order.{atOrBelow, orderPasses};
-ghost use Rattle.levels.specs.OrderRows.{closed, rowFits, levelPasses, rowPasses, rowsPass};
+ghost use Rattle.levels.specs.OrderRows.{RowsFit, closed, AllCovered, rowFits, levelPasses, LevelCovered, restEmpty, rowsPass};
 
 #[repr(C)]
 pub struct Order {
@@ -25,17 +26,20 @@ pub fn at_or_below(order: Order, a: u16, b: u16) -> bool
     }
 }
 
-// Each level of `set` has its row within `set`.
+// Each level of `set` has its row within `set`, or is passed over: it is in a row found within `set`.
+// The level of that row has its own test, which shows what is passed over here, so all levels together miss nothing.
 fn is_closed(rows: &[u16; 16], set: u16) -> bool
-    ensures { λ r. ⌜ r ≡ closed (now (rows .entry)) set ⌝ }
+    requires { ⌜ RowsFit (now rows) ⌝ }
+    ensures { λ r. ⌜ (r ≡ true → AllCovered (now (rows .entry)) set) × (r ≡ false → closed (now (rows .entry)) set ≡ false) ⌝ }
 {
     let mut left = set;
     while left != 0 {
         let b = u16::trailing_zeros(left) as usize;
-        if rows[b] | set != set {
+        let row = rows[b];
+        if row | set != set {
             return false;
         }
-        left = left & (left - 1);
+        left = left & (left - 1) & !row;
     }
     true
 }
@@ -50,8 +54,8 @@ fn row_fits(row: u16, count: u16, top: u16, a: u16) -> bool
 
 // Where what is strictly above a is closed, a breaks neither transitivity nor antisymmetry.
 fn level_passes(rows: &[u16; 16], count: u16, top: u16, a: u16) -> bool
-    requires { ⌜ (count ≤ 16) × (top < count) × (a < count) ⌝ }
-    ensures { λ r. ⌜ r ≡ levelPasses (now (rows .entry)) count top a ⌝ }
+    requires { ⌜ RowsFit (now rows) × (count ≤ 16) × (top < count) × (a < count) ⌝ }
+    ensures { λ r. ⌜ (r ≡ true → LevelCovered (now (rows .entry)) count top a) × (r ≡ false → levelPasses (now (rows .entry)) count top a ≡ false) ⌝ }
 {
     let row = rows[a as usize];
     if row_fits(row, count, top, a) {
@@ -61,19 +65,23 @@ fn level_passes(rows: &[u16; 16], count: u16, top: u16, a: u16) -> bool
     }
 }
 
-fn row_passes(rows: &[u16; 16], count: u16, top: u16, a: u16) -> bool
-    requires { ⌜ (count ≤ 16) × (top < count) × (a < 16) ⌝ }
-    ensures { λ r. ⌜ r ≡ rowPasses (now (rows .entry)) count top a ⌝ }
+fn rest_empty(rows: &[u16; 16], count: u16) -> bool
+    requires { ⌜ count ≤ 16 ⌝ }
+    ensures { λ r. ⌜ r ≡ restEmpty (now (rows .entry)) count ⌝ }
 {
-    if a < count {
-        level_passes(rows, count, top, a)
-    } else {
-        rows[a as usize] == 0
+    let mut a = count;
+    while a < MOST_LEVELS {
+        if rows[a as usize] != 0 {
+            return false;
+        }
+        a += 1;
     }
+    true
 }
 
 // Leaves at the first row that fails.
 fn rows_pass(rows: &[u16; 16], count: u16, top: u16) -> bool
+    requires { ⌜ RowsFit (now rows) ⌝ }
     ensures { λ r. ⌜ r ≡ rowsPass (now (rows .entry)) count top ⌝ }
 {
     if count > MOST_LEVELS {
@@ -83,13 +91,13 @@ fn rows_pass(rows: &[u16; 16], count: u16, top: u16) -> bool
         return false;
     }
     let mut a: u16 = 0;
-    while a < MOST_LEVELS {
-        if !row_passes(rows, count, top, a) {
+    while a < count {
+        if !level_passes(rows, count, top, a) {
             return false;
         }
         a += 1;
     }
-    true
+    rest_empty(rows, count)
 }
 
 pub fn order_passes(order: Order) -> bool

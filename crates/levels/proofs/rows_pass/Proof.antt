@@ -1,19 +1,20 @@
-use mathlib.Core.Path.{_≡_, sym, _∙_}
-use mathlib.Core.Bool.{true}
-use Prim.Native.Nat.{_-_, _≤_}
+use mathlib.Core.Path.{_≡_}
+use mathlib.Core.Logic.{_⊎_, ⊎-elim}
+use Prim.Native.Nat.{ℕ, _+_, _-_, _≤_, _<_}
+use native.Mathlib.Nat.{not-suc-le-zero, eq-or-lt-of-le}
 use native.Mathlib.Omega.{arith}
 use borrow.Author.Tests.{lt-ltb, le-ltb, le-leb, lt-leb, not-true, not-false}
-use Rattle.bits.specs.All.{allB}
-use Rattle.bits.specs.AllLaws.{all-none, all-more, all-fails}
-use Rattle.levels.specs.OrderRows.{rowPasses, rowsPass}
+use Rattle.bits.specs.AllLaws.{all-fails}
+use Rattle.levels.specs.OrderRows.{LevelCovered, rowsPass}
+use Rattle.levels.specs.OrderRowsLaws.{covered-pass}
 use Rattle.levels.proofs.rows_pass.Statement.{statement}
 use Rattle.levels.proofs.rows_pass.Tie as tie
 
 abbrev Inv-loop : tie.InvT-loop
-Inv-loop rows count top a₀ a = (a ≤ 16) × (allB a (λ k. rowPasses rows count top k) ≡ true)
+Inv-loop rows count top a₀ a = (a ≤ count) × ((k : ℕ) → k < a → LevelCovered rows count top k)
 
 abbrev μ-loop : tie.MeasureT-loop
-μ-loop rows count top a₀ a = 16 - a
+μ-loop rows count top a₀ a = count - a
 
 returns : tie.Need-returns Inv-loop μ-loop
 unfolding rowsPass
@@ -24,25 +25,28 @@ unfolding rowsPass
 returns-2 c = rw (le-leb _ _ (c .before .if1 .left), le-ltb _ _ (c .if2 .taken))
 
 loop-holds : tie.Need-loop-holds Inv-loop μ-loop
-loop-holds c = (omega arith, all-none _)
+loop-holds c = (omega arith, λ k l. absurd (not-suc-le-zero l))
 
 returns-3 : tie.Need-returns-3 Inv-loop μ-loop
 unfolding rowsPass
 returns-3 c =
     let s = c .before .before .before .before in
-    let e = sym (c .before .row-passes .ensures) ∙ not-true _ (c .if3 .taken) in
-    rw (le-leb _ _ (s .before .if1 .left), lt-ltb _ _ (s .if2 .left)) (sym (all-fails 16 _ _ (omega arith) e))
+    let e = c .before .level-passes .ensures .1 (not-true _ (c .if3 .taken)) in
+    rw (le-leb _ _ (s .before .if1 .left), lt-ltb _ _ (s .if2 .left), all-fails (s .before .before .args .count) _ (c .before .before .before .loop .a) (omega arith) e)
 
 loop-again : tie.Need-loop-again Inv-loop μ-loop
 loop-again c =
-    (omega arith, all-more _ _ (c .before .before .before .loop .inv .1) (sym (c .before .row-passes .ensures) ∙ not-false _ (c .if3 .left)))
+    let s = c .before .before .before .loop in
+    let e = c .before .level-passes .ensures .0 (not-false _ (c .if3 .left)) in
+    let below : (k : ℕ) → k < s .a + 1 → (k ≡ s .a) ⊎ (k < s .a) = λ k l. eq-or-lt-of-le (omega arith) in
+    (omega arith, λ k l. ⊎-elim (λ q. rw q e) (s .inv .1 k) (below k l))
 
 returns-4 : tie.Need-returns-4 Inv-loop μ-loop
 unfolding rowsPass
 returns-4 c =
-    let s = c .before .before in
-    let e : c .before .loop .a ≡ 16 = omega arith in
-    rw (le-leb _ _ (s .before .if1 .left), lt-ltb _ _ (s .if2 .left)) (sym (rw e at (c .before .loop .inv .1)))
+    let s = c .before .before .before in
+    let e : c .before .before .loop .a ≡ s .before .before .args .count = omega arith in
+    rw (le-leb _ _ (s .before .if1 .left), lt-ltb _ _ (s .if2 .left), covered-pass _ _ _ (s .before .before .pre) (s .before .if1 .left) (rw e at (c .before .before .loop .inv .1))) (c .rest-empty .ensures)
 
 pub rows-pass-spec : {M : Type 1} → statement M
 rows-pass-spec =
@@ -53,9 +57,10 @@ rows-pass-spec =
     returns
     returns-2
     loop-holds
-    (λ c κs. omega arith)
+    (λ c κs. (c .before .before .before .before .pre, omega arith, omega arith, omega arith))
     returns-3
     (λ c. omega arith)
     (λ c. omega arith)
     loop-again
+    (λ c κs. omega arith)
     returns-4)
