@@ -1,4 +1,5 @@
 pub mod Sets
+pub mod WordLaws
 pub mod SetLaws
 pub mod WalkLaws
 pub mod Reports

@@ -6,6 +6,7 @@ ghost use Prim.Native.Nat.{_+_, _≤_, _<_};
 ghost use lib.Dec.{eqb};
 ghost use lib.ListN.{length};
 ghost use Rattle.bits.specs.Bit.{wordOf};
+ghost use Rattle.bits.specs.BitLaws.{lowWord};
 ghost use Rattle.bits.specs.All.{anyB};
 ghost use Rattle.records.specs.Records.{field};
 ghost use Rattle.marking.specs.Sets.{has, setOf, inWord, joined};
@@ -16,16 +17,30 @@ pub struct Set {
     pub high: u64,
 }
 
+// Of eight numbers, from the first on: a bit for each whose byte f is not zero. The last is taken first, so that a turn doubles what is there and needs no place.
+fn eight_with(bytes: &[u8], first: usize, f: usize) -> u64
+    requires { ⌜ (length (now bytes) ≡ 1024) × (first ≤ 120) × (f < 8) ⌝ }
+    ensures { λ r. ⌜ r ≡ lowWord (λ i. not (eqb (field (now (bytes .entry)) (first + i) f) 0)) 8 ⌝ }
+{
+    let mut w: u64 = 0;
+    let mut i: usize = 8;
+    while i > 0 {
+        i -= 1;
+        w = 2 * w + ((bytes[RECORD_SIZE * (first + i) + f] != 0) as u64);
+    }
+    w
+}
+
 // The word of 64 numbers, from the first on: whose byte f is not zero.
 fn word_with(bytes: &[u8], first: usize, f: usize) -> u64
     requires { ⌜ (length (now bytes) ≡ 1024) × (first ≤ 64) × (f < 8) ⌝ }
     ensures { λ r. ⌜ r ≡ wordOf (λ i. not (eqb (field (now (bytes .entry)) (first + i) f) 0)) ⌝ }
 {
     let mut w: u64 = 0;
-    let mut i: usize = 0;
-    while i < 64 {
-        w = w | (((bytes[RECORD_SIZE * (first + i) + f] != 0) as u64) << i);
-        i += 1;
+    let mut g: usize = 0;
+    while g < 8 {
+        w = w | (eight_with(bytes, first + 8 * g, f) << (8 * g));
+        g += 1;
     }
     w
 }
