@@ -80,36 +80,7 @@ fn end_line(line: &[u8], out: &mut [u8], bytes: &mut [u8], words: &mut [u64], st
     }
 }
 
-// A byte of the input: it ends a line, or is kept, or comes after what is kept of its line.
-fn take_byte(
-    b: u8,
-    line: &mut [u8],
-    out: &mut [u8],
-    bytes: &mut [u8],
-    words: &mut [u64],
-    state: State,
-) -> State
-    requires { ⌜ Sized (now line) (now out) × Within state ⌝ }
-    ensures { λ r. ⌜ Within r ⌝ }
-{
-    let filled = state.filled;
-    if b == b'\n' {
-        return end_line(&line[..filled], out, bytes, words, state);
-    }
-    if filled >= KEPT {
-        return state;
-    }
-    line[filled] = b;
-    let run = state.run;
-    State {
-        run,
-        filled: filled + 1,
-        used: state.used,
-        more: state.more,
-        ok: state.ok,
-    }
-}
-
+// Each byte of the input ends a line, or is kept, or comes after what is kept of its line.
 fn feed(
     chunk: &[u8],
     line: &mut [u8],
@@ -122,11 +93,23 @@ fn feed(
     ensures { λ r. ⌜ Within r ⌝ }
 {
     let mut state = from;
+    let mut filled = state.filled;
     let mut i = 0;
     while i < chunk.len() {
-        state = take_byte(chunk[i], line, out, bytes, words, state);
+        let b = chunk[i];
         i += 1;
+        if b == b'\n' {
+            state = end_line(&line[..filled], out, bytes, words, state);
+            filled = 0;
+            continue;
+        }
+        if filled == KEPT {
+            continue;
+        }
+        line[filled] = b;
+        filled += 1;
     }
+    state.filled = filled;
     state
 }
 
