@@ -67,6 +67,13 @@ pub record Told (m : Memory) (e : Event) (j : Decision) (does : Decision → Lis
   pub verdict : j .verdict ≡ verdictOf e
   pub leaves : effects (does j) m ≡ effects (e .effects) m
 
+-- a refusal leaves the memory as it was
+pub turned-away : (m : Memory) (e : Event) {v : ℕ} → v ≡ verdictOf e → slipped < v → left v 0 (m .bytes) (m .words) ≡ outcome m e
+unfolding outcome
+turned-away m e is h =
+    let n : isDone (verdictOf e) ≡ false = rw is at (lt-leb _ _ h) in
+    rw n (λ i. record { verdict = is i; rounds = 0; memory = m })
+
 module _ {m : Memory} {e : Event} {j : Decision} {does : Decision → List Effect} (t : Told m e j does) {d : Decision} (is : d ≡ j) where
   same : d .verdict ≡ verdictOf e
   same = rw is (t .verdict)
@@ -79,10 +86,7 @@ module _ {m : Memory} {e : Event} {j : Decision} {does : Decision → List Effec
       rw y (λ i. record { verdict = same i; rounds = 0; memory = u i })
 
   pub refused : slipped < d .verdict → left (d .verdict) 0 (m .bytes) (m .words) ≡ outcome m e
-  unfolding outcome
-  refused h =
-      let n : isDone (verdictOf e) ≡ false = rw same at (lt-leb _ _ h) in
-      rw n (λ i. record { verdict = same i; rounds = 0; memory = m })
+  refused h = turned-away m e same h
 
   -- a call that is done passed all its tests; at a concrete event the last argument is `refl`
   pub told-tests : d .verdict ≤ slipped → refusals (e .tests) ≡ true → Holds (e .tests)

@@ -60,7 +60,13 @@ pub fn names(bytes: &[u8], x: u16, f: u16, y: u16) -> bool
 pub fn are_named(bytes: &[u8], e: u16, d: u16, x: u16) -> bool
     ensures { λ r. ⌜ r ≡ (isTask (now (bytes .entry)) e && isTask (now (bytes .entry)) d && isObject (now (bytes .entry)) x) ⌝ }
 {
-    records::is_task(bytes, e) & records::is_task(bytes, d) & records::is_object(bytes, x)
+    if !records::is_task(bytes, e) {
+        return false;
+    }
+    if !records::is_task(bytes, d) {
+        return false;
+    }
+    records::is_object(bytes, x)
 }
 
 // An access of the task e to the object x in a table; a number past the table has none.

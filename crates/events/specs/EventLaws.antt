@@ -1,9 +1,10 @@
 -- The tables of the events on objects: each verdict is its decision's under the rows above it, and each list of effects is the code's.
 -- Assumes nothing.
-use mathlib.Core.Path.{_≡_, refl, ap, _∙_}
+use mathlib.Core.Path.{_≡_, refl, ap, sym, _∙_}
 use mathlib.Core.Bool.{Bool, true, false, not, _&&_, _||_, and-comm, and-eq-true-iff}
 use mathlib.Core.List.{List, [], _∷_}
 use Prim.Native.Nat.{ℕ, _≤_, _<_}
+use native.Mathlib.Omega.{arith}
 use lib.Dec.{eqb}
 use lib.ListN.{length}
 use borrow.Author.Tests.{lt-ltb}
@@ -13,11 +14,11 @@ use Rattle.records.specs.Records.{numbers}
 use Rattle.model.specs.Verdicts.{granted, slipped, row-number, row-driver, row-place, row-held, row-rule, row-filled}
 use Rattle.model.specs.State.{Memory, task, object, levelOf, readLevelOf, driverOf, containerOf, marked, hasWrite}
 use Rattle.model.specs.Effects.{Effect, flow-if, read-access, write-access, move-to, clear, effect, effects}
-use Rattle.model.specs.Events.{unless, firstFailing, verdictOf, read, write, move, delete}
+use Rattle.model.specs.Events.{left, unless, firstFailing, verdictOf, outcome, read, write, move, delete}
 use Rattle.decisions.specs.declared.Decision.{Decision}
 use Rattle.decisions.specs.Decisions.{apart, readDecision, writeDecision, moveDecision, deleteDecision}
 use Rattle.decisions.specs.Facts.{writes, bothWrite}
-use Rattle.decisions.specs.DecisionLaws.{Told, told-tests, under, apart-joins, task-small, object-small}
+use Rattle.decisions.specs.DecisionLaws.{Told, told-tests, turned-away, under, apart-joins, task-small, object-small}
 use Rattle.events.specs.Judged.{allWrite, mayMove, moveNamed, isEmpty, driven, unlessFilled, moveRows, deleteRows, readDecided, writeDecided, moveDecided, deleteDecided, readJudged, writeJudged, moveJudged, deleteJudged}
 
 -- a flow that one of two conditions records, of which at most one holds, is recorded where either holds
@@ -66,6 +67,10 @@ module _ (o : Order) (m : Memory) where
         ap (driven (m .bytes) (task m e && task m d && object m x) d x)
         (apart-joins (L e ⊑ L d || R e ⊑ L d) (honest || marked m d) true (L x ⊑ L d) honest)
 
+    pub read-unnamed : (task m e && task m d && object m x) ≡ false → left row-number 0 (m .bytes) (m .words) ≡ outcome m (read o m e d x)
+    unfolding driven unless
+    read-unnamed n = turned-away m _ (sym (read-verdict ∙ rw n)) (omega arith)
+
     pub read-told : Told m (read o m e d x) (readJudged o m e d x) (λ j. read-access e x ∷ flow-if (j .first) x e ∷ flow-if (j .second) d e ∷ [])
     unfolding read readDecided readDecision effects
     read-told =
@@ -83,6 +88,10 @@ module _ (o : Order) (m : Memory) where
         let honest = L x ⊑ L e in
         ap (driven (m .bytes) (task m e && task m d && object m x) d x)
         (apart-joins true (honest || marked m d) true (L x ⊑ L d) honest)
+
+    pub write-unnamed : (task m e && task m d && object m x) ≡ false → left row-number 0 (m .bytes) (m .words) ≡ outcome m (write o m e d x)
+    unfolding driven unless
+    write-unnamed n = turned-away m _ (sym (write-verdict ∙ rw n)) (omega arith)
 
     pub write-told : Told m (write o m e d x) (writeJudged o m e d x) (λ j. write-access e x ∷ flow-if (j .first) e x ∷ flow-if (j .second) e d ∷ [])
     unfolding write writeDecided writeDecision effects effect

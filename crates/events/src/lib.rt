@@ -9,7 +9,9 @@ ghost use Rattle.model.specs.Events.{left, outcome, read, write, move, delete};
 mod effects;
 mod judge;
 
+use decisions::facts::are_named;
 use levels::Order;
+use model::NUMBER;
 use model::SLIPPED;
 
 pub fn read(
@@ -23,6 +25,9 @@ pub fn read(
     requires { ⌜ (length (now bytes) ≡ 1024) × (length (now words) ≡ 768) × (orderPasses order ≡ true) ⌝ }
     ensures { λ r. ⌜ left r 0 (now (bytes .entry)) (now (words .exit)) ≡ outcome (memory (now (bytes .entry)) (now (words .entry))) (read order (memory (now (bytes .entry)) (now (words .entry))) task driver object) ⌝ }
 {
+    if !are_named(bytes, task, driver, object) {
+        return NUMBER;
+    }
     let judged = judge::read(bytes, order, task, driver, object);
     if judged.verdict <= SLIPPED {
         effects::read(words, judged, task, driver, object);
@@ -41,6 +46,9 @@ pub fn write(
     requires { ⌜ (length (now bytes) ≡ 1024) × (length (now words) ≡ 768) × (orderPasses order ≡ true) ⌝ }
     ensures { λ r. ⌜ left r 0 (now (bytes .entry)) (now (words .exit)) ≡ outcome (memory (now (bytes .entry)) (now (words .entry))) (write order (memory (now (bytes .entry)) (now (words .entry))) task driver object) ⌝ }
 {
+    if !are_named(bytes, task, driver, object) {
+        return NUMBER;
+    }
     let judged = judge::write(bytes, order, task, driver, object);
     if judged.verdict <= SLIPPED {
         effects::write(words, judged, task, driver, object);

@@ -1,22 +1,29 @@
+use mathlib.Core.Path.{_∙_, sym}
 use mathlib.Core.List.{[]}
 use borrow.Author.Needs.{needs}
+use borrow.Author.Tests.{not-true}
+use Rattle.model.specs.State.{task, object}
 use Rattle.decisions.specs.DecisionLaws.{done, refused}
-use Rattle.events.specs.EventLaws.{read-told, read-fits}
+use Rattle.events.specs.EventLaws.{read-unnamed, read-told, read-fits}
 use Rattle.events.proofs.read.Statement.{statement}
 use Rattle.events.proofs.read.Tie as tie
 
+returns : tie.Need-returns
+unfolding task object
+returns c = read-unnamed _ _ _ _ _ (sym (c .before .are-named .ensures) ∙ not-true _ (c .if1 .taken))
+
 read-requires-2 : tie.Need-read-requires-2
 read-requires-2 c κs =
-    let pre = c .before .before .before .before .before .before .pre in
+    let pre = c .before .before .before .before .before .before .before .before .pre in
     read-fits _ _ (pre .0) _ _ _ (c .before .before .before .read .ensures []) (search)
 
-returns : tie.Need-returns
-returns c =
+returns-2 : tie.Need-returns-2
+returns-2 c =
     let judged = c .before .before .before .before .before .before .read .ensures in
     done (read-told _ _ _ _ _) (judged _) (search) (c .before .before .read2 .ensures _)
 
-returns-2 : tie.Need-returns-2
-returns-2 c = refused (read-told _ _ _ _ _) (c .before .before .read .ensures _) (search)
+returns-3 : tie.Need-returns-3
+returns-3 c = refused (read-told _ _ _ _ _) (c .before .before .read .ensures _) (search)
 
 pub read-spec : {M : Type 1} → statement M
-read-spec = tie.close (tie.spec (λ c κs. search needs) read-requires-2 (λ c. search needs) returns returns-2)
+read-spec = tie.close (tie.spec (λ c κs. search needs) returns (λ c κs. search needs) read-requires-2 (λ c. search needs) returns-2 returns-3)

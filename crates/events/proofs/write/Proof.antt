@@ -1,22 +1,29 @@
+use mathlib.Core.Path.{_∙_, sym}
 use mathlib.Core.List.{[]}
 use borrow.Author.Needs.{needs}
+use borrow.Author.Tests.{not-true}
+use Rattle.model.specs.State.{task, object}
 use Rattle.decisions.specs.DecisionLaws.{done, refused}
-use Rattle.events.specs.EventLaws.{write-told, write-fits}
+use Rattle.events.specs.EventLaws.{write-unnamed, write-told, write-fits}
 use Rattle.events.proofs.write.Statement.{statement}
 use Rattle.events.proofs.write.Tie as tie
 
+returns : tie.Need-returns
+unfolding task object
+returns c = write-unnamed _ _ _ _ _ (sym (c .before .are-named .ensures) ∙ not-true _ (c .if1 .taken))
+
 write-requires-2 : tie.Need-write-requires-2
 write-requires-2 c κs =
-    let pre = c .before .before .before .before .before .before .pre in
+    let pre = c .before .before .before .before .before .before .before .before .pre in
     write-fits _ _ (pre .0) _ _ _ (c .before .before .before .write .ensures []) (search)
 
-returns : tie.Need-returns
-returns c =
+returns-2 : tie.Need-returns-2
+returns-2 c =
     let judged = c .before .before .before .before .before .before .write .ensures in
     done (write-told _ _ _ _ _) (judged _) (search) (c .before .before .write2 .ensures _)
 
-returns-2 : tie.Need-returns-2
-returns-2 c = refused (write-told _ _ _ _ _) (c .before .before .write .ensures _) (search)
+returns-3 : tie.Need-returns-3
+returns-3 c = refused (write-told _ _ _ _ _) (c .before .before .write .ensures _) (search)
 
 pub write-spec : {M : Type 1} → statement M
-write-spec = tie.close (tie.spec (λ c κs. search needs) write-requires-2 (λ c. search needs) returns returns-2)
+write-spec = tie.close (tie.spec (λ c κs. search needs) returns (λ c κs. search needs) write-requires-2 (λ c. search needs) returns-2 returns-3)
