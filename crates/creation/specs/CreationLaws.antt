@@ -13,7 +13,7 @@ use Rattle.levels.specs.Order.{mostLevels, inOrder, atOrBelow, orderPasses}
 use Rattle.levels.specs.OrderLaws.{is-order}
 use Rattle.records.specs.Records.{numbers, rootSign, isObject}
 use Rattle.model.specs.Verdicts.{granted, slipped, row-scale, row-rule}
-use Rattle.model.specs.State.{Memory, inUse, task, object, levelOf, hasWrite}
+use Rattle.model.specs.State.{Memory, inUse, task, object, levelOf, marked, hasWrite}
 use Rattle.model.specs.Effects.{flow-if, make-task, make-object, effect, effects}
 use Rattle.model.specs.Events.{unless, firstFailing, verdictOf, execute, create, createRoot}
 use Rattle.decisions.specs.declared.Decision.{Decision}
@@ -61,13 +61,18 @@ module _ (o : Order) (m : Memory) where
 
   module _ (long : length (m .bytes) ≡ 1024) where
     -- an access is looked for in its table, past which there is none
-    pub create-verdict : (c d n k l : ℕ) → verdictOf (create o m c d n k l)
+    create-verdict : (c d n k l : ℕ) → verdictOf (create o m c d n k l)
         ≡ createRows (m .bytes) (m .words) c d n k (scaled o l (l ⊑ L c && l ⊑ L k && l ⊑ L d))
     unfolding verdictOf firstFailing unless create task object inUse hasWrite areNew writes bothWrite given scaled createRows
     create-verdict c d n k l =
         under (areNew (m .bytes) c d n && isObject (m .bytes) k) _ _ _
         (λ h. let p = simp and-eq-true-iff at h in
         rw (lt-ltb c numbers (task-small m c long (p .0 .0 .0)), lt-ltb d numbers (task-small m d long (p .0 .0 .1))))
+
+    pub create-is : (c d n k l : ℕ) {v : ℕ} {flows : Bool}
+        → v ≡ createRows (m .bytes) (m .words) c d n k (scaled o l (l ⊑ L c && l ⊑ L k && l ⊑ L d)) → flows ≡ marked m d
+        → record { verdict = v; first = flows; second = flows } ≡ createJudged o m c d n k l
+    create-is c d n k l v flows = rw (v, flows, create-verdict c d n k l)
 
     -- ---- what a call that is done stores fits its place
     module _ (passes : orderPasses o ≡ true) {j : Decision} where
