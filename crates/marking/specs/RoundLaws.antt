@@ -69,7 +69,7 @@ module _ (v : Memory) (ws : List ℕ) (q : ℕ → Bool) where
             let p = simp and-eq-true-iff at e in
             let a = any-at 128 _ (p .0) in
             let b = simp and-eq-true-iff at (a .2) in
-            let o = simp and-eq-true-iff at (sym (t .owns (a .0) x (a .1) l) ∙ b .1) in
+            let o = simp and-eq-true-iff at (sym (t .owns (a .0) x (a .1) l n) ∙ b .1) in
             and-i (kept-object g x ∙ o .0)
             (ap (marked (byFlows v)) (kept-driver g x ∙ eqb-true _ _ (o .1)) ∙ marked-flows v h (a .0) (a .1)
             ∙ ⊎-elim (λ c. or-l _ _ (s .are (a .0) (a .1) c)) (λ c. or-r (marked v (a .0)) _ (sym (flow-is (a .0) (a .1)) ∙ c)) (or-cases (q (a .0)) (flowed (a .0)) (b .0 .0)))
@@ -85,7 +85,7 @@ module _ (v : Memory) (ws : List ℕ) (q : ℕ → Bool) where
             let old : q d ≡ false → marked v d ≡ true → ⊥ = λ f c. true≢false (sym (s .old-object x d l k c f own) ∙ n) in
             let feeds : (q d || flowed d) ≡ true = ⊎-elim
             (λ c. ⊎-elim (λ f. or-l _ _ f) (λ f. absurd (old f c)) (either (q d))) (λ c. or-r (q d) _ (flow-is d k ∙ c)) (or-cases (marked v d) (reached v d) (sym (marked-flows v h d k) ∙ m)) in
-            and-i (any-i 128 _ d k (and-i (and-i feeds (t .drives d x k l own)) (t .owns d x k l ∙ own))) (and-i (object-used v x o) (ap not n))
+            and-i (any-i 128 _ d k (and-i (and-i feeds (t .drives d x k l n own)) (t .owns d x k l n ∙ own))) (and-i (object-used v x o) (ap not n))
 
     new-is : (x : ℕ) → x < numbers → marked v x ≡ false → (flowed x || owned x) ≡ (marked (round v) x && not (marked v x))
     new-is x l n = rw (flow-is x l, driver-is x l n, marked-round v h x l, n) (sym (and-true _))

@@ -1,10 +1,11 @@
 -- What the rounds of a spread work on: the objects of each driver as rows, and a round on sets.
 -- Assumes nothing.
 use mathlib.Core.Path.{_≡_}
-use mathlib.Core.Bool.{Bool, true, not, cond, _&&_, _||_}
+use mathlib.Core.Bool.{Bool, true, false, not, cond, _&&_, _||_}
 use mathlib.Core.List.{List}
 use Prim.Native.Nat.{ℕ, _<_}
-use Rattle.bits.specs.All.{upTo}
+use lib.Dec.{eqb}
+use Rattle.bits.specs.All.{anyB}
 use Rattle.rows.specs.Rows.{cell, addCell}
 use Rattle.records.specs.Records.{numbers, driver, isObject}
 use Rattle.model.specs.State.{Memory, inUse, marked}
@@ -18,14 +19,22 @@ use Rattle.marking.specs.Sets.{has, setOf, joined}
 unfoldable pub ownRow : List ℕ → ℕ → List ℕ → List ℕ
 ownRow bs x ws = cond (isObject bs x) (addCell 2 (addCell 2 ws (driver bs x) x) 128 (driver bs x)) ws
 
--- the same for the first n numbers
-unfoldable pub ownRows : List ℕ → ℕ → List ℕ → List ℕ
-ownRows bs n ws = upTo (λ x v. ownRow bs x v) n ws
+-- so the number i puts y into row d
+unfoldable pub puts : List ℕ → ℕ → ℕ → ℕ → Bool
+puts bs d y i = isObject bs i && ((eqb d (driver bs i) && eqb y i) || (eqb d 128 && eqb y (driver bs i)))
 
--- of a memory's rows made so: row d has the objects of d, and whatever drives one is in row 128
+-- vs is ws with the numbers that pass put into their rows
+abbrev pub Put : List ℕ → (ℕ → Bool) → List ℕ → List ℕ → Type 0
+Put bs q ws vs = (d y : ℕ) → y < numbers → cell 2 vs d y ≡ (cell 2 ws d y || anyB 128 (λ i. q i && puts bs d y i))
+
+-- the driver of each object is one of the numbers
+abbrev pub Driven : List ℕ → Type 0
+Driven bs = (x : ℕ) → isObject bs x ≡ true → driver bs x < numbers
+
+-- of the unmarked things: row d has the objects of d, and whatever drives one is in row 128
 pub record Table (m : Memory) (ws : List ℕ) : Type 0 where
-  pub owns : (d x : ℕ) → d < numbers → x < numbers → cell 2 ws d x ≡ objectOf m d x
-  pub drives : (d x : ℕ) → d < numbers → x < numbers → objectOf m d x ≡ true → cell 2 ws 128 d ≡ true
+  pub owns : (d x : ℕ) → d < numbers → x < numbers → marked m x ≡ false → cell 2 ws d x ≡ objectOf m d x
+  pub drives : (d x : ℕ) → d < numbers → x < numbers → marked m x ≡ false → objectOf m d x ≡ true → cell 2 ws 128 d ≡ true
 
 -- ---- a round, with the rows of flows, the rows of objects, the unmarked things in use and the sources
 

@@ -7,17 +7,18 @@ use mathlib.Core.List.{List}
 use Prim.Native.Nat.{ℕ, zero, suc, _+_, _-_, _≤_, _<_}
 use native.Mathlib.Nat.{zero-add}
 use native.Mathlib.Omega.{arith}
+use borrow.Author.Tests.{not-true}
 use Rattle.bits.specs.All.{anyB, countB}
-use Rattle.bits.specs.AllLaws.{any-ext, any-i, any-at, not-so, and-true, and-false}
+use Rattle.bits.specs.AllLaws.{either, any-ext, any-i, any-at, not-so, and-i, and-true, and-false}
 use Rattle.bits.specs.LoopLaws.{count-le}
 use Rattle.rows.specs.Rows.{cell}
 use Rattle.records.specs.Records.{numbers}
 use Rattle.model.specs.State.{Memory, inUse, marked}
-use Rattle.model.specs.StateLaws.{object-used}
+use Rattle.model.specs.StateLaws.{object-used, marked-below}
 use Rattle.model.specs.Effects.{markWhere}
 use Rattle.model.specs.Spread.{reached, driven, round, marksSome, rounds, afterRounds, spread}
 use Rattle.model.specs.MarkLaws.{MoreMarks, more-none, more-then, kept-inUse, kept-marked, where-length}
-use Rattle.model.specs.SpreadLaws.{Sized, sized-more, byFlows, round-only, more-round, marked-round, unmarked, round-fewer, rest-rounds, after-keeps, spread-only}
+use Rattle.model.specs.SpreadLaws.{Sized, Closed, sized-more, byFlows, round-only, more-round, marked-round, unmarked, round-fewer, rest-rounds, after-keeps, spread-only}
 use Rattle.marking.specs.declared.sets.Set.{Set}
 use Rattle.marking.specs.declared.rounds.Spread.{Spread}
 use Rattle.marking.specs.Sets.{has, setOf, joined}
@@ -28,11 +29,14 @@ use Rattle.marking.specs.Rounds.{Table, byFlow, byDriver, roundSet, spre
 use Rattle.marking.specs.RoundLaws.{Sources, round-is, first-sources, next-sources}
 
 table-more : {m v : Memory} {ws : List ℕ} → MoreMarks m v → Table m ws → Table v ws
-table-more g t =
+table-more {m} {v} g t =
     record {
-      owns = λ d x l k. t .owns d x l k ∙ sym (kept-objectOf g d x);
-      drives = λ d x l k e. t .drives d x l k (sym (kept-objectOf g d x) ∙ e);
+      owns = λ d x l k n. t .owns d x l k (was x n) ∙ sym (kept-objectOf g d x);
+      drives = λ d x l k n e. t .drives d x l k (was x n) (sym (kept-objectOf g d x) ∙ e);
     }
+  where
+    was : (x : ℕ) → marked v x ≡ false → marked m x ≡ false
+    was x n = not-so _ (λ e. true≢false (sym (kept-marked g x e) ∙ n))
 
 sources-ext : {v : Memory} {q r : ℕ → Bool} → ((x : ℕ) → x < numbers → r x ≡ q x) → Sources v q → Sources v r
 sources-ext e s =
@@ -76,73 +80,76 @@ unfolding afterRounds
 rest-after zero m e = refl
 rest-after (suc k) m e = rw e
 
--- after k rounds that marked something: what is left unmarked, and what the next round marks
-pub record Spreading (m : Memory) (k : ℕ) (left new : Set) : Type 0 where
+-- after k rounds that marked something: what is left unmarked, and the sources of the next round
+pub record Spreading (m : Memory) (k : ℕ) (left src : Set) : Type 0 where
   pub now : Memory
   pub more : MoreMarks m now
   pub counted : rounds numbers m ≡ k + rounds (numbers - k) now
   pub after : afterRounds numbers m ≡ afterRounds (numbers - k) now
   pub few : k + countB numbers (unmarked now) ≤ numbers
   pub left-is : left ≡ setOf (λ x. unmarked now x)
-  pub new-is : new ≡ setOf (newly now)
+  pub sources : Sources now (has src)
 
 pub unmarked-set : (m : Memory) {used src left : Set} → used ≡ setOf (inUse m) → src ≡ setOf (marked m) → left ≡ setOf (λ x. has used x && not (has src x)) → left ≡ setOf (λ x. unmarked m x)
 unmarked-set m a b e = e ∙ set-ext _ _ (λ x l. ap₂ (λ (p q : Bool). p && not q) (in-set _ a x l) (in-set _ b x l))
 
-module _ (m : Memory) (h : Sized m) (ws : List ℕ) (t : Table m ws) where
-  pub spreading-first : {src left new : Set} → src ≡ setOf (marked m) → left ≡ setOf (λ x. unmarked m x) → new ≡ roundSet (m .words) ws left src → Spreading m 0 left new
-  spreading-first {src} {left} e f g =
-      record {
-        now = m;
-        more = more-none m;
-        counted = sym (zero-add _);
-        after = refl;
-        few = omega (arith, count-le numbers (unmarked m));
-        left-is = f;
-        new-is = g ∙ round-new m ws left src h t (sources-ext (in-set _ e) (first-sources m)) f;
-      }
+pub spreading-first : (m : Memory) {src left : Set} → src ≡ setOf (marked m) → left ≡ setOf (λ x. unmarked m x) → Spreading m 0 left src
+spreading-first m e f =
+    record {
+      now = m;
+      more = more-none m;
+      counted = sym (zero-add _);
+      after = refl;
+      few = omega (arith, count-le numbers (unmarked m));
+      left-is = f;
+      sources = sources-ext (in-set _ e) (first-sources m);
+    }
 
-  some-is : {k : ℕ} {left new : Set} (s : Spreading m k left new) → marksSome (s .now) ≡ anyB 128 (λ x. has new x)
+-- a turn
+module _ (m : Memory) (h : Sized m) (ws : List ℕ) (t : Table m ws) {k : ℕ} {left src new : Set} (s : Spreading m k left src) (r : new ≡ roundSet (m .words) ws left src) where
+  sized : Sized (s .now)
+  sized = sized-more (s .more) h
+
+  new-is : new ≡ setOf (newly (s .now))
+  new-is =
+      r ∙ ap (λ (w : List ℕ). roundSet w ws left src) (sym (s .more .words-kept))
+      ∙ round-new (s .now) ws left src sized (table-more (s .more) t) (s .sources) (s .left-is)
+
+  some-is : marksSome (s .now) ≡ anyB 128 (λ x. has new x)
   unfolding marksSome
-  some-is s = any-ext 128 _ _ (λ x l. sym (in-set _ (s .new-is) x l))
+  some-is = any-ext 128 _ _ (λ x l. sym (in-set _ new-is x l))
 
-  module _ {k : ℕ} {left new : Set} (s : Spreading m k left new) (some : anyB 128 (λ x. has new x) ≡ true) where
+  module _ (some : anyB 128 (λ x. has new x) ≡ true) where
     marks : marksSome (s .now) ≡ true
-    marks = some-is s ∙ some
-
-    sized : Sized (s .now)
-    sized = sized-more (s .more) h
+    marks = some-is ∙ some
 
     pub spreading-below : k < numbers
     spreading-below = omega (arith, s .few, round-fewer (s .now) sized marks)
 
-    pub spreading-next : {left′ new′ : Set} → left′ ≡ setOf (λ x. has left x && not (has new x)) → new′ ≡ roundSet (m .words) ws left′ new → Spreading m (k + 1) left′ new′
+    pub spreading-next : {left′ : Set} → left′ ≡ setOf (λ x. has left x && not (has new x)) → Spreading m (k + 1) left′ new
     unfolding rounds afterRounds
-    spreading-next {left′} e f =
+    spreading-next e =
         let v = s .now in
-        let g : MoreMarks m (round v) = more-then (s .more) (more-round v) in
         let j : numbers - k ≡ suc (numbers - (k + 1)) = omega (arith, spreading-below) in
         let c : rounds (numbers - k) v ≡ 1 + rounds (numbers - (k + 1)) (round v) = rw j (rw marks) in
-        let l : left′ ≡ setOf (λ x. unmarked (round v) x) =
-        e ∙ set-ext _ _ (λ x b. ap₂ (λ (p q : Bool). p && not q) (in-set _ (s .left-is) x b) (in-set _ (s .new-is) x b)
-        ∙ shed (inUse v x) (marked v x) (marked (round v) x) (kept-marked (more-round v) x) ∙ ap (λ (i : Bool). i && not (marked (round v) x)) (sym (kept-inUse (more-round v) x))) in
         record {
           now = round v;
-          more = g;
+          more = more-then (s .more) (more-round v);
           counted = omega (arith, s .counted, c);
           after = s .after ∙ rw j (rw marks);
           few = omega (arith, s .few, round-fewer v sized marks);
-          left-is = l;
-          new-is = f ∙ ap (λ (w : List ℕ). roundSet w ws left′ new) (sym (g .words-kept))
-              ∙ round-new (round v) ws left′ new (sized-more g h) (table-more g t) (next-sources v sized (has new) (in-set _ (s .new-is))) l;
+          left-is = e
+              ∙ set-ext _ _ (λ x b. ap₂ (λ (p q : Bool). p && not q) (in-set _ (s .left-is) x b) (in-set _ new-is x b)
+              ∙ shed (inUse v x) (marked v x) (marked (round v) x) (kept-marked (more-round v) x) ∙ ap (λ (i : Bool). i && not (marked (round v) x)) (sym (kept-inUse (more-round v) x)));
+          sources = next-sources v sized (has new) (in-set _ new-is);
         }
 
-  pub spreading-end : {k : ℕ} {left new before : Set} → Spreading m k left new → anyB 128 (λ x. has new x) ≡ false → before ≡ setOf (λ x. unmarked m x)
+  pub spreading-end : anyB 128 (λ x. has new x) ≡ false → {before : Set} → before ≡ setOf (λ x. unmarked m x)
       → {all : Set} → all ≡ setOf (λ x. has before x && not (has left x)) → record { marked = all; rounds = k } ≡ spreadSets m
   unfolding spreadSets
-  spreading-end {k} s none e {all} f =
+  spreading-end none e {all} f =
       let v = s .now in
-      let z : marksSome v ≡ false = some-is s ∙ none in
+      let z : marksSome v ≡ false = some-is ∙ none in
       let c : k ≡ rounds numbers m = omega (arith, s .counted, rest-rounds (numbers - k) v z) in
       let a : v ≡ afterRounds numbers m = sym (s .after ∙ rest-after (numbers - k) v z) in
       let l : all ≡ setOf (λ x. unmarked m x && marked (afterRounds numbers m) x) =
@@ -187,19 +194,40 @@ spread-is m h {done} {n} e f =
         go true u = rw (u refl, d)
         go false u = and-false (unmarked m x)
 
--- where nothing is marked there is no round
+-- ---- where there is no round
+
+-- nothing goes from a marked thing to another
+still : (m : Memory) → Sized m → Closed m (λ x. marked m x ≡ true) → marksSome m ≡ false
+unfolding marksSome
+still m h c =
+    not-so _
+    (λ p. let s = any-at numbers _ p in
+    let t = simp and-eq-true-iff at (s .2) in
+    true≢false (sym (round-only _ m m c (more-none m) h (λ x l e. e) (s .0) (s .1) (t .0)) ∙ not-true _ (t .1)))
+
+-- nothing is marked
 pub spread-none : (m : Memory) → Sized m → {src : Set} → src ≡ setOf (marked m) → anyB 128 (λ x. has src x) ≡ false → record { verdict = 0; rounds = 0; memory = m } ≡ spread m
-unfolding spread marksSome
+unfolding spread
 spread-none m h {src} e f =
-    let r = sym (rest-rounds numbers m still) in
-    let a = sym (rest-after numbers m still) in
+    let s = still m h (record { by-flow = λ x y q l u f. absurd (none x q); by-driver = λ x y q l o d. absurd (none x q) }) in
+    let r = sym (rest-rounds numbers m s) in
+    let a = sym (rest-after numbers m s) in
     λ i. record { verdict = 0; rounds = r i; memory = a i }
   where
-    none : (x : ℕ) → x < numbers → marked m x ≡ true → ⊥
-    none x l p = true≢false (sym (any-i 128 (λ x. has src x) x l (in-set _ e x l ∙ p)) ∙ f)
+    none : (x : ℕ) → marked m x ≡ true → ⊥
+    none x p = let l = marked-below m x h p in true≢false (sym (any-i 128 (λ x. has src x) x l (in-set _ e x l ∙ p)) ∙ f)
 
-    still : marksSome m ≡ false
-    still =
-        not-so _
-        (λ p. let s = any-at numbers _ p in
-        round-only (λ x. ⊥) m m (record { by-flow = λ x y q l u f. q; by-driver = λ x y q l o d. q }) (more-none m) h none (s .0) (s .1) ((simp and-eq-true-iff at (s .2)) .0))
+-- all in use are marked
+pub sets-none : (m : Memory) → Sized m → {left : Set} → left ≡ setOf (λ x. unmarked m x) → anyB 128 (λ x. has left x) ≡ false → record { marked = left; rounds = 0 } ≡ spreadSets m
+unfolding spreadSets
+sets-none m h {left} e f =
+    let s = still m h (record { by-flow = λ x y q l u f. all y l u; by-driver = λ x y q l o d. all y l (object-used m y o) }) in
+    let r = sym (rest-rounds numbers m s) in
+    let a = e ∙ set-ext _ (λ x. unmarked m x && marked (afterRounds numbers m) x) (λ x l. rw (none x l)) in
+    λ i. record { marked = a i; rounds = r i }
+  where
+    none : (x : ℕ) → x < numbers → unmarked m x ≡ false
+    none x l = not-so _ (λ p. true≢false (sym (any-i 128 (λ x. has left x) x l (in-set _ e x l ∙ p)) ∙ f))
+
+    all : (x : ℕ) → x < numbers → inUse m x ≡ true → marked m x ≡ true
+    all x l u = ⊎-elim (λ p. p) (λ p. absurd (true≢false (sym (and-i u (ap not p)) ∙ none x l))) (either (marked m x))

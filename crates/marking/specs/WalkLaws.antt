@@ -13,6 +13,7 @@ use lib.Dec.{leb, eqb, ltb}
 use borrow.Author.Tests.{leb-true, leb-false, le-leb, lt-leb, eqb-true, eqb-false, eq-eqb, ne-eqb, ltb-true, ltb-false}
 use Rattle.bits.specs.Bit.{bit}
 use Rattle.bits.specs.BitLaws.{bit-zero, bit-past, bit-rest, trailing-set, trailing-lt}
+use Rattle.bits.specs.All.{anyB}
 use Rattle.bits.specs.AllLaws.{either, and-false, and-true, or-false, any-ext, any-or, any-one, any-false}
 use Rattle.rows.specs.Rows.{cell}
 use Rattle.marking.specs.declared.sets.Set.{Set}
@@ -62,27 +63,41 @@ has-words s f y l = go (either (ltb y 64))
         let z : y - 0 ≡ y = omega arith in
         rw (e, z, le-leb 64 y h, le-leb 0 y (omega arith), bit-past 64 (s .low) y (f .low) h)
 
+-- ---- whether some number of a word passes, beside what is known
+
+module _ (p : ℕ → Bool) where
+  abbrev someOf : (ℕ → Bool) → Bool
+  someOf q = anyB 128 (λ y. q y && p y)
+
+  some-ext : (q r : ℕ → Bool) → ((y : ℕ) → y < 128 → q y ≡ r y) → someOf q ≡ someOf r
+  some-ext q r e = any-ext 128 _ _ (λ y l. rw (e y l))
+
+  some-or : (a : Bool) (q r : ℕ → Bool) → ((a || someOf q) || someOf r) ≡ (a || someOf (λ y. q y || r y))
+  some-or a q r =
+      or-assoc a (someOf q) (someOf r)
+      ∙ ap (λ (b : Bool). a || b) (sym (any-ext 128 _ _ (λ y l. and-or-distrib-right (q y) (r y) (p y)) ∙ any-or 128 _ _))
+
+  -- the lowest one, and then what is left of the word
+  pub some-next : (a : Bool) (w n t : ℕ) → w < 2 ^ 64 → 0 < w → n ≤ 64 → t ≡ trailingZeros 64 w
+      → ((a || p (n + t)) || someOf (inWord (bitAnd w (w - 1)) n)) ≡ (a || someOf (inWord w n))
+  some-next a w n t h l k e =
+      let r = inWord (bitAnd w (w - 1)) n in
+      ap (λ (b : Bool). (a || b) || someOf r) (sym (any-one 128 p (n + t) (rw e (omega (arith, trailing-lt 64 w h l)))))
+      ∙ some-or a (λ y. eqb y (n + t)) r ∙ ap (λ (b : Bool). a || b) (some-ext (λ y. eqb y (n + t) || r y) (inWord w n) (λ y b. rw e (sym (in-next w n y h l))))
+
+  pub some-end : (a : Bool) (w n : ℕ) → w ≡ 0 → (a || someOf (inWord w n)) ≡ a
+  some-end a w n e = ap (λ (b : Bool). a || b) (some-ext (inWord w n) (λ y. false) (λ y l. rw e (in-none n y)) ∙ any-false 128) ∙ or-false a
+
+  -- both words of a set
+  pub some-words : (a : Bool) (s : Set) → Fits s → ((a || someOf (inWord (s .low) 0)) || someOf (inWord (s .high) 64)) ≡ (a || someOf (has s))
+  some-words a s f = some-or a (inWord (s .low) 0) (inWord (s .high) 64) ∙ ap (λ (b : Bool). a || b) (some-ext _ (has s) (λ y l. sym (has-words s f y l)))
+
 -- ---- the rows of some numbers together
 
 module _ (ws : List ℕ) where
   pub joined-ext : (q r : ℕ → Bool) (x : ℕ) → ((y : ℕ) → y < 128 → q y ≡ r y) → joined ws q x ≡ joined ws r x
   unfolding joined
-  joined-ext q r x h = any-ext 128 _ _ (λ y l. rw (h y l))
-
-  pub joined-or : (q r : ℕ → Bool) (x : ℕ) → joined ws (λ y. q y || r y) x ≡ (joined ws q x || joined ws r x)
-  unfolding joined
-  joined-or q r x = any-ext 128 _ _ (λ y l. and-or-distrib-right (q y) (r y) (cell 2 ws y x)) ∙ any-or 128 _ _
-
-  pub joined-none : (x : ℕ) → joined ws (λ y. false) x ≡ false
-  unfolding joined
-  joined-none x = any-false 128
-
-  pub joined-one : (z x : ℕ) → z < 128 → joined ws (λ y. eqb y z) x ≡ cell 2 ws z x
-  unfolding joined
-  joined-one z x l = any-one 128 (λ y. cell 2 ws y x) z l
-
-  pub joined-end : (n x : ℕ) → joined ws (inWord 0 n) x ≡ false
-  joined-end n x = joined-ext _ _ x (λ y l. in-none n y) ∙ joined-none x
+  joined-ext q r x e = some-ext (λ y. cell 2 ws y x) q r e
 
   -- a row as a set
   pub has-row : (z x : ℕ) → x < 128 → has (pair (getD ws (2 * z) 0) (getD ws (2 * z + 1) 0)) x ≡ cell 2 ws z x
@@ -104,16 +119,12 @@ module _ (ws : List ℕ) where
   -- the row of the lowest one is joined, and then what is left of the word
   pub joined-next : (a b w n t x : ℕ) → w < 2 ^ 64 → 0 < w → n ≤ 64 → t ≡ trailingZeros 64 w → x < 128
       → (has (pair (bitOr a (getD ws (2 * (n + t)) 0)) (bitOr b (getD ws (2 * (n + t) + 1) 0))) x || joined ws (inWord (bitAnd w (w - 1)) n) x) ≡ (has (pair a b) x || joined ws (inWord w n) x)
+  unfolding joined
   joined-next a b w n t x h p l e k =
-      ap (λ (q : Bool). q || left) (has-or a b _ _ x ∙ ap (λ (q : Bool). has (pair a b) x || q) (has-row (n + t) x k ∙ sym (joined-one (n + t) x (rw e (omega (arith, trailing-lt 64 w h p))))))
-      ∙ or-assoc (has (pair a b) x) _ left
-      ∙ ap (λ (q : Bool). has (pair a b) x || q)
-      (sym (joined-or (λ y. eqb y (n + t)) (inWord (bitAnd w (w - 1)) n) x) ∙ joined-ext _ _ x (λ y b. rw e (sym (in-next w n y h p))))
-    where
-      left : Bool
-      left = joined ws (inWord (bitAnd w (w - 1)) n) x
+      ap (λ (q : Bool). q || joined ws (inWord (bitAnd w (w - 1)) n) x) (has-or a b _ _ x ∙ ap (λ (q : Bool). has (pair a b) x || q) (has-row (n + t) x k))
+      ∙ some-next (λ y. cell 2 ws y x) (has (pair a b) x) w n t h p l e
 
   -- both words of a set
   pub joined-words : (s : Set) → Fits s → (x : ℕ) → ((has (pair 0 0) x || joined ws (inWord (s .low) 0) x) || joined ws (inWord (s .high) 64) x) ≡ joined ws (has s) x
-  joined-words s f x =
-      rw (has-empty x) (sym (joined-or (inWord (s .low) 0) (inWord (s .high) 64) x) ∙ joined-ext _ _ x (λ y l. sym (has-words s f y l)))
+  unfolding joined
+  joined-words s f x = rw (has-empty x) (some-words (λ y. cell 2 ws y x) false s f)

@@ -162,9 +162,7 @@ pub fn spread(bytes: &mut [u8], words: &[u64], order: Order) -> u8
     if sets::is_empty(sources) {
         return 0;
     }
-    let mut owned = [0u64; 258];
-    rounds::own_rows(bytes, &mut owned);
-    let done = rounds::spread_sets(bytes, words, &owned, sources);
+    let done = rounds::spread_sets(bytes, words, sources);
     let set = done.marked;
     marks::mark_set(bytes, set);
     done.rounds

@@ -10,8 +10,8 @@ ghost use Prim.Native.Nat.{_≤_, _<_};
 ghost use lib.ListN.{length};
 ghost use Rattle.model.specs.State as state;
 ghost use Rattle.model.specs.State.{memory};
-ghost use Rattle.marking.specs.Sets.{setOf};
-ghost use Rattle.marking.specs.Rounds.{Table, ownRow, ownRows, roundSet, spreadSets};
+ghost use Rattle.marking.specs.Sets.{has, setOf, inWord};
+ghost use Rattle.marking.specs.Rounds.{Driven, Put, ownRow, roundSet, spreadSets};
 
 // An object is put into the row of its driver, and its driver into the last row.
 fn own_row(bytes: &[u8], owned: &mut [u64], x: u16)
@@ -26,16 +26,25 @@ fn own_row(bytes: &[u8], owned: &mut [u64], x: u16)
     }
 }
 
-// The same for each number.
-pub fn own_rows(bytes: &[u8], owned: &mut [u64])
-    requires { ⌜ length (now bytes) ≡ 1024 ⌝ }
-    ensures { λ _. ⌜ now (owned .exit) ≡ ownRows (now (bytes .entry)) 128 (now (owned .entry)) ⌝ }
+// The same for the numbers of a word.
+fn own_word(bytes: &[u8], owned: &mut [u64], word: u64, first: u16)
+    requires { ⌜ (length (now bytes) ≡ 1024) × (length (now owned) ≡ 258) × (first ≤ 64) × Driven (now bytes) ⌝ }
+    ensures { λ _. ⌜ Put (now (bytes .entry)) (inWord word first) (now (owned .entry)) (now (owned .exit)) ⌝ }
 {
-    let mut x: u16 = 0;
-    while x < NUMBERS {
-        own_row(bytes, owned, x);
-        x += 1;
+    let mut rest = word;
+    while rest != 0 {
+        own_row(bytes, owned, first + (bits::lowest_one(rest) as u16));
+        rest = rest & (rest - 1);
     }
+}
+
+// The same for the numbers of a set.
+fn own_rows(bytes: &[u8], owned: &mut [u64], set: Set)
+    requires { ⌜ (length (now bytes) ≡ 1024) × (length (now owned) ≡ 258) × Driven (now bytes) ⌝ }
+    ensures { λ _. ⌜ Put (now (bytes .entry)) (has set) (now (owned .entry)) (now (owned .exit)) ⌝ }
+{
+    own_word(bytes, owned, set.low, 0);
+    own_word(bytes, owned, set.high, 64);
 }
 
 // What a round marks of the unmarked things in use: those that a source has a flow to, and then the objects of the sources and of these.
@@ -60,18 +69,30 @@ pub struct Spread {
 }
 
 // The rounds go on until one marks nothing. What older sources feed or drive is marked by then, so only the things that the last round marked are sources of the next.
-pub fn spread_sets(bytes: &[u8], words: &[u64], owned: &[u64], marked: Set) -> Spread
-    requires { ⌜ (length (now bytes) ≡ 1024) × (length (now words) ≡ 768) × (length (now owned) ≡ 258) × Table (memory (now bytes) (now words)) (now owned) × (marked ≡ setOf (state.marked (memory (now bytes) (now words)))) ⌝ }
+pub fn spread_sets(bytes: &[u8], words: &[u64], marked: Set) -> Spread
+    requires { ⌜ (length (now bytes) ≡ 1024) × (length (now words) ≡ 768) × Driven (now bytes) × (marked ≡ setOf (state.marked (memory (now bytes) (now words)))) ⌝ }
     ensures { λ r. ⌜ r ≡ spreadSets (memory (now (bytes .entry)) (now (words .entry))) ⌝ }
 {
     let before = sets::without(sets::with_field(bytes, KIND), marked);
+    if sets::is_empty(before) {
+        return Spread {
+            marked: before,
+            rounds: 0,
+        };
+    }
+    // A round takes only unmarked objects from the rows, so only these are put there.
+    let mut owned = [0u64; 258];
+    own_rows(bytes, &mut owned, before);
     let mut unmarked = before;
-    let mut new = round(words, owned, unmarked, marked);
+    let mut new = marked;
     let mut count: u8 = 0;
-    while !sets::is_empty(new) {
+    loop {
+        new = round(words, &owned, unmarked, new);
+        if sets::is_empty(new) {
+            break;
+        }
         count += 1;
         unmarked = sets::without(unmarked, new);
-        new = round(words, owned, unmarked, new);
     }
     let all = sets::without(before, unmarked);
     Spread {

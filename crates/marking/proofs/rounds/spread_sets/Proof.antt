@@ -1,59 +1,70 @@
--- Before each turn the count is that of the rounds done, and the new set is what the next round marks.
+-- Before each turn the count is that of the rounds done, and the new set has the sources of the next.
 -- Assumes nothing.
 use mathlib.Core.Path.{_≡_, sym, _∙_}
 use mathlib.Core.Bool.{true}
 use Prim.Native.Nat.{_-_, _<_}
 use native.Mathlib.Omega.{arith}
+use lib.ListN.{replicate}
 use borrow.Author.Needs.{needs}
 use borrow.Author.Tests.{not-true, not-false}
 use Rattle.bits.specs.All.{anyB}
+use Rattle.rows.specs.RowLaws.{cell-zeros}
 use Rattle.model.specs.State.{memory, inUse, marked}
 use Rattle.model.specs.SpreadLaws.{unmarked}
 use Rattle.marking.specs.Sets.{has, setOf}
-use Rattle.marking.specs.SpreadingLaws.{Spreading, unmarked-set, spreading-first, spreading-below, spreading-next, spreading-end}
+use Rattle.marking.specs.Rounds.{Table}
+use Rattle.marking.specs.OwnedLaws.{owned-table}
+use Rattle.marking.specs.SpreadingLaws.{Spreading, unmarked-set, spreading-first, spreading-below, spreading-next, spreading-end, sets-none}
 use Rattle.marking.proofs.rounds.spread_sets.Statement.{statement}
 use Rattle.marking.proofs.rounds.spread_sets.Tie as tie
 
 abbrev Inv-loop : tie.InvT-loop
-Inv-loop bytes words owned before unmarked₀ new₀ count₀ unmarked new count = Spreading (memory bytes words) count unmarked new
+Inv-loop bytes words before owned unmarked₀ new₀ count₀ unmarked new count = Spreading (memory bytes words) count unmarked new
 
 abbrev μ-loop : tie.MeasureT-loop
-μ-loop bytes words owned before unmarked₀ new₀ count₀ unmarked new count = 128 - count
+μ-loop bytes words before owned unmarked₀ new₀ count₀ unmarked new count = 128 - count
 
 -- the unmarked things in use at entry
 first : (c : tie.After-without Inv-loop μ-loop)
-    → c .without .result ≡ setOf (λ x. unmarked (memory (c .before .before .before .before .before .args .bytes .now) (c .before .before .before .before .before .args .words .now)) x)
+    → c .without .result ≡ setOf (λ x. unmarked (memory (c .before .before .before .before .args .bytes .now) (c .before .before .before .before .args .words .now)) x)
 unfolding inUse marked
 first c =
-    let z = c .before .before .before .before .before in
-    unmarked-set (memory (z .args .bytes .now) (z .args .words .now)) (c .before .with-field .ensures) (z .pre .4) (c .without .ensures)
+    let z = c .before .before .before .before in
+    unmarked-set (memory (z .args .bytes .now) (z .args .words .now)) (c .before .with-field .ensures) (z .pre .3) (c .without .ensures)
+
+returns : tie.Need-returns Inv-loop μ-loop
+returns c = sets-none _ (search needs) (first (c .before .before)) (not-true _ (sym (c .before .is-empty .ensures) ∙ c .if1 .taken))
+
+abbrev start : tie.After-owned2 Inv-loop μ-loop → tie.Start Inv-loop μ-loop
+start c = c .before .before .before .before .before .before .before .before .before
+
+table : (c : tie.After-owned2 Inv-loop μ-loop) → Table (memory (start c .args .bytes .now) (start c .args .words .now)) (c .before .own-rows .last .1 .0)
+table c = owned-table _ (first (c .before .before .before .before .before)) (replicate 258 0) _ (cell-zeros 2 258) (c .before .own-rows .ensures)
 
 loop-holds : tie.Need-loop-holds Inv-loop μ-loop
 unfolding marked
-loop-holds c =
-    let z = c .before .before .before .before .before .before in
-    spreading-first _ (search needs) (z .args .owned .now) (z .pre .3) (z .pre .4) (first (c .before)) (c .round .ensures)
+loop-holds c = spreading-first _ (search needs) (first (c .before .before .before .before .before))
 
-some : (c : tie.Then1 Inv-loop μ-loop) → anyB 128 (λ x. has (c .before .before .loop .new) x) ≡ true
-some c = not-false _ (sym (c .before .is-empty .ensures) ∙ not-true _ (c .if1 .taken))
+some : (c : tie.Else2 Inv-loop μ-loop) → anyB 128 (λ x. has (c .before .before .round .result) x) ≡ true
+some c = not-false _ (sym (c .before .is-empty2 .ensures) ∙ c .if2 .left)
 
-below : (c : tie.Then1 Inv-loop μ-loop) → c .before .before .loop .count < 128
+below : (c : tie.Else2 Inv-loop μ-loop) → c .before .before .before .before .loop .count < 128
 below c =
-    let z = c .before .before .before .before .before .before .before .before .before in
-    spreading-below _ (search needs) (z .args .owned .now) (z .pre .3) (c .before .before .loop .inv) (some c)
+    let d = c .before .before .before .before in
+    spreading-below _ (start (d .before) .pre .0) _ (table (d .before)) (d .loop .inv) (c .before .before .round .ensures) (some c)
 
 loop-again : tie.Need-loop-again Inv-loop μ-loop
 loop-again c =
-    let d = c .before .before in
-    let z = d .before .before .before .before .before .before .before .before .before in
-    spreading-next _ (search needs) (z .args .owned .now) (z .pre .3) (d .before .before .loop .inv) (some d) (c .before .without2 .ensures) (c .round2 .ensures)
-
-returns : tie.Need-returns Inv-loop μ-loop
-returns c =
     let d = c .before .before .before in
-    let z = d .before .before .before .before .before .before .before in
-    spreading-end _ (search needs) (z .args .owned .now) (z .pre .3) (d .loop .inv) (not-true _ (sym (c .before .before .is-empty .ensures) ∙ not-false _ (c .before .if1 .left)))
-    (first (d .before .before)) (c .without3 .ensures)
+    let e = d .before .before .before in
+    spreading-next _ (start e .pre .0) _ (table e) (d .before .before .loop .inv) (d .round .ensures) (some (c .before)) (c .without2 .ensures)
+
+returns-2 : tie.Need-returns-2 Inv-loop μ-loop
+returns-2 c =
+    let d = c .before .before .before in
+    let e = d .before .before .before in
+    spreading-end _ (start e .pre .0) _ (table e) (d .before .before .loop .inv) (d .round .ensures) (not-true _ (sym (c .before .before .is-empty2 .ensures) ∙ c .before .if2 .taken))
+    (first (e .before .before .before .before .before)) (c .without3 .ensures)
 
 pub spread-sets-spec : {M : Type 1} → statement M
 spread-sets-spec =
@@ -64,12 +75,16 @@ spread-sets-spec =
     (λ c κs. search needs)
     (λ c κs. search needs)
     (λ c κs. search needs)
+    returns
+    (λ c. search needs)
+    (λ c κs. search needs)
     loop-holds
+    (λ c. search needs)
+    (λ c κs. search needs)
     (λ c κs. search needs)
     (λ c. omega (arith, below c))
     (λ c κs. search needs)
-    (λ c κs. search needs)
-    (λ c. omega (arith, below (c .before .before)))
+    (λ c. omega (arith, below (c .before)))
     loop-again
     (λ c κs. search needs)
-    returns)
+    returns-2)

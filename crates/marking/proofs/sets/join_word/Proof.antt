@@ -1,16 +1,16 @@
 -- What is joined and what is left to join make the same at every turn.
 -- Assumes nothing.
-use mathlib.Core.Path.{_≡_, refl, sym, ap, _∙_}
-use mathlib.Core.Bool.{Bool, _||_}
+use mathlib.Core.Path.{_≡_, refl, sym, _∙_}
+use mathlib.Core.Bool.{_||_}
 use Prim.Native.Nat.{ℕ, _^_, _<_}
 use native.Mathlib.Omega.{arith}
 use lib.Bits.{or-lt}
 use borrow.Author.Needs.{needs}
 use Rattle.bits.specs.BitLaws.{trailing-lt}
-use Rattle.bits.specs.AllLaws.{or-false}
+use Rattle.rows.specs.Rows.{cell}
 use Rattle.marking.specs.Sets.{has, inWord, joined}
 use Rattle.marking.specs.SetLaws.{Fits, pair, set-is}
-use Rattle.marking.specs.WalkLaws.{joined-next, joined-end, rest-less}
+use Rattle.marking.specs.WalkLaws.{some-end, joined-next, rest-less}
 use Rattle.marking.proofs.sets.join_word.Statement.{statement}
 use Rattle.marking.proofs.sets.join_word.Tie as tie
 
@@ -42,11 +42,12 @@ loop-again c =
     )
 
 returns : tie.Need-returns Inv-loop μ-loop
+unfolding joined
 returns c =
     let l = c .before .loop in
     let a = c .before .before .before .args in
     set-is _ _ (l .inv .1)
-    (λ x b. sym (ap (λ (q : Bool). has (pair (l .low) (l .high)) x || q) (ap (λ (w : ℕ). joined (a .words .now) (inWord w (a .first)) x) (c .loop-test .left) ∙ joined-end (a .words .now) (a .first) x) ∙ or-false _) ∙ l .inv .2 x b)
+    (λ x b. sym (some-end (λ y. cell 2 (a .words .now) y x) (has (pair (l .low) (l .high)) x) (l .rest) (a .first) (c .loop-test .left)) ∙ l .inv .2 x b)
 
 pub join-word-spec : {M : Type 1} → statement M
 join-word-spec =
