@@ -1,1 +1,1 @@
-s/__builtin_popcountll(set.words\[0\]) + //
+s/__builtin_popcountll(report.words\[0\]) +/0 +/
