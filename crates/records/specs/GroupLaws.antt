@@ -1,57 +1,136 @@
--- The numbers in groups of four, and the test of a group.
+-- The records in groups of eight, and the tests of a group.
 -- Assumes nothing.
-use mathlib.Core.Path.{_≡_, sym, _∙_}
-use mathlib.Core.Bool.{Bool, true, false, _||_}
+use mathlib.Core.Path.{_≡_, sym, ap, _∙_}
+use mathlib.Core.Logic.{⊎-elim}
+use mathlib.Core.Bool.{Bool, true, false, _&&_, _||_, true≢false, and-eq-true-iff}
 use mathlib.Core.List.{List}
-use Prim.Native.Nat.{ℕ, _+_, _*_, _/_, _%_, _<_}
+use Prim.Native.Nat.{ℕ, _+_, _-_, _*_, _/_, _%_, _^_, _≤_, _<_}
+use native.Mathlib.Nat.{not-le-of-lt}
+use native.Mathlib.Numerals.{add-one}
 use native.Mathlib.Omega.{arith}
-use lib.Dec.{eqb}
+use lib.Bits.{bitOr, or-add-and, and-le-l, and-le-r, or-shr, or-mod}
+use lib.Dec.{eqb, ltb}
 use lib.ListN.{getD, length}
 use mir.Syntax.{w8}
 use mir.Val.{Fits}
+use borrow.Author.Tests.{eqb-true, eq-eqb, ltb-true, ltb-false}
 use Rattle.bits.specs.All.{allB}
-use Rattle.bits.specs.AllLaws.{all-at, all-i, all-fails, and-false, both-ways, or-l}
+use Rattle.bits.specs.AllLaws.{all-at, all-i, and-l, and-r, and-i, both-ways, either, not-so, or-l}
 use Rattle.levels.specs.declared.Order.{Order}
-use Rattle.records.specs.Records.{numbers, recordSize, freeRecord, taskRecord, objectRecord, soundRecord, sound}
-use Rattle.records.specs.HalfLaws.{word, free-word}
+use Rattle.records.specs.Records.{numbers, recordSize, freeRecord, taskRecord, objectRecord, soundRecord}
+use Rattle.records.specs.WordLaws.{word, wordSound, raised, below, free-word, word-record}
 
 abbrev pub groupSize : ℕ
-groupSize = 4
+groupSize = 8
 
-abbrev pub groups : ℕ
-groups = 32
-
--- the records of the group g are free
+-- the records of the group from x on are free
 unfoldable pub groupFree : List ℕ → ℕ → Bool
-groupFree bs g = allB groupSize (λ k. eqb (word bs (groupSize * g + k)) 0)
+groupFree bs x = allB groupSize (λ k. eqb (word bs (x + k)) 0)
 
--- the records of the group g are sound
+-- their levels are below the count, where they are below 128
+unfoldable pub levelsFit : ℕ → List ℕ → ℕ → Bool
+levelsFit count bs x = allB groupSize (λ k. below (raised count (word bs (x + k))))
+
+-- they are sound
 unfoldable pub groupSound : Order → List ℕ → ℕ → Bool
-groupSound o bs g = allB groupSize (λ k. soundRecord o bs (groupSize * g + k))
+groupSound o bs x = allB groupSize (λ k. soundRecord o bs (x + k))
 
--- a free group is sound
-pub free-group : (o : Order) (bs : List ℕ) (g : ℕ) → length bs ≡ recordSize * numbers → ((i : ℕ) → Fits w8 (getD bs i 0)) → groupFree bs g ≡ true → groupSound o bs g ≡ true
-unfolding groupFree groupSound soundRecord
-free-group o bs g long byte h =
-    all-i groupSize (λ k. soundRecord o bs (groupSize * g + k))
-    (λ k l. let x = groupSize * g + k in
-    or-l (freeRecord bs x || taskRecord o bs x) (objectRecord o bs x)
-    (or-l (freeRecord bs x) (taskRecord o bs x)
-    (sym (free-word o bs x long byte) ∙ all-at groupSize (λ k. eqb (word bs (groupSize * g + k)) 0) h k l)))
+-- the first n records are sound
+abbrev pub allSound : Order → List ℕ → ℕ → Bool
+allSound o bs n = allB n (λ x. soundRecord o bs x)
 
--- all groups are sound where all records are
-pub all-groups : (o : Order) (bs : List ℕ) → allB groups (λ g. groupSound o bs g) ≡ allB numbers (λ x. soundRecord o bs x)
-unfolding groupSound
-all-groups o bs =
+-- the first n records are whole groups, and the others are free
+pub record UsedEnd (bs : List ℕ) (n : ℕ) : Type 0 where
+  pub in-range : n ≤ numbers
+  pub whole : n % groupSize ≡ 0
+  pub free-rest : (x : ℕ) → n ≤ x → x < numbers → eqb (word bs x) 0 ≡ true
+
+-- ---- a test of an `or` is the test of both
+
+pub or-zero : (a b : ℕ) → eqb (bitOr a b) 0 ≡ (eqb a 0 && eqb b 0)
+or-zero a b =
     both-ways _ _
-    (λ h. all-i numbers (λ x. soundRecord o bs x) (λ x l.
-    let s = all-at groupSize (λ k. soundRecord o bs (groupSize * (x / groupSize) + k)) (all-at groups (λ g. groupSound o bs g) h (x / groupSize) (omega arith)) (x % groupSize) (omega arith) in
-    let e : groupSize * (x / groupSize) + x % groupSize ≡ x = omega arith in
-    rw e at s))
-    (λ h. all-i groups (λ g. groupSound o bs g) (λ g l. all-i groupSize (λ k. soundRecord o bs (groupSize * g + k)) (λ k m.
-    all-at numbers (λ x. soundRecord o bs x) h (groupSize * g + k) (omega arith))))
+    (λ h. simp and-eq-true-iff (omega (arith, eqb-true, eq-eqb, or-add-and a b, and-le-l a b, and-le-r a b)))
+    (λ h. let p = simp and-eq-true-iff at h in omega (arith, eqb-true, eq-eqb, or-add-and a b, and-le-l a b, and-le-r a b))
 
--- one group that is not sound fails them all
-pub unsound-group : (o : Order) (bs : List ℕ) (g : ℕ) → g < groups → groupSound o bs g ≡ false → sound o bs ≡ false
-unfolding sound
-unsound-group o bs g l e = simp (sym (all-groups o bs) ∙ all-fails groups (λ g. groupSound o bs g) g l e, and-false)
+or-digit : (a b k : ℕ) → eqb (bitOr a b / 2 ^ k % 2) 0 ≡ (eqb (a / 2 ^ k % 2) 0 && eqb (b / 2 ^ k % 2) 0)
+or-digit a b k = rw (or-shr a b k, or-mod (a / 2 ^ k) (b / 2 ^ k) 1) (or-zero (a / 2 ^ k % 2) (b / 2 ^ k % 2))
+
+pub or-below : (a b : ℕ) → below (bitOr a b) ≡ (below a && below b)
+unfolding below
+or-below a b =
+    rw (or-digit a b 15, or-digit a b 23) (both-ways _ _
+    (λ h. let p = simp and-eq-true-iff at h in simp and-eq-true-iff ((p .0 .0, p .1 .0), (p .0 .1, p .1 .1)))
+    (λ h. let p = simp and-eq-true-iff at h in simp and-eq-true-iff ((p .0 .0, p .1 .0), (p .0 .1, p .1 .1))))
+
+-- ---- all numbers below n
+
+-- one more
+pub all-step : (n : ℕ) (p : ℕ → Bool) → allB (n + 1) p ≡ (allB n p && p n)
+unfolding allB
+all-step n p = ap (λ (k : ℕ). allB k p) (add-one n)
+
+-- two tests that are one
+all-and : (n : ℕ) (p q r : ℕ → Bool) → ((k : ℕ) → (p k && q k) ≡ r k) → (allB n p && allB n q) ≡ allB n r
+all-and n p q r e =
+    both-ways _ _
+    (λ h. let t = simp and-eq-true-iff at h in all-i n r (λ k l. sym (e k) ∙ and-i (all-at n p (t .0) k l) (all-at n q (t .1) k l)))
+    (λ h. simp and-eq-true-iff (all-i n p (λ k l. and-l (p k) (q k) (e k ∙ all-at n r h k l)), all-i n q (λ k l. and-r (p k) (q k) (e k ∙ all-at n r h k l))))
+
+-- ---- group after group
+
+pub next-group : (o : Order) (bs : List ℕ) (x : ℕ) → allSound o bs x ≡ true → groupSound o bs x ≡ true → allSound o bs (x + groupSize) ≡ true
+unfolding groupSound
+next-group o bs x h s = all-i (x + groupSize) (λ y. soundRecord o bs y) (λ y l. ⊎-elim
+    (λ t. all-at x (λ y. soundRecord o bs y) h y (ltb-true y x t))
+    (λ f. let b : x ≤ y = ltb-false y x f in
+    let e : x + (y - x) ≡ y = omega arith in
+    rw e at (all-at groupSize (λ k. soundRecord o bs (x + k)) s (y - x) (omega arith)))
+    (either (ltb y x)))
+
+pub unsound-group : (o : Order) (bs : List ℕ) (x : ℕ) → x + groupSize ≤ numbers → groupSound o bs x ≡ false → allSound o bs numbers ≡ false
+unfolding groupSound
+unsound-group o bs x l e = not-so _ (λ t. true≢false (sym (all-i groupSize (λ k. soundRecord o bs (x + k)) (λ k b. all-at numbers (λ y. soundRecord o bs y) t (x + k) (omega arith))) ∙ e))
+
+-- ---- the tests of a group, and of all records
+
+module _ (o : Order) (bs : List ℕ) (long : length bs ≡ recordSize * numbers) (byte : (i : ℕ) → Fits w8 (getD bs i 0)) where
+  -- a free record is sound
+  free-sound : (x : ℕ) → eqb (word bs x) 0 ≡ true → soundRecord o bs x ≡ true
+  unfolding soundRecord
+  free-sound x h = or-l (freeRecord bs x || taskRecord o bs x) (objectRecord o bs x) (or-l (freeRecord bs x) (taskRecord o bs x) (sym (free-word o bs x long byte) ∙ h))
+
+  pub free-group : (x : ℕ) → groupFree bs x ≡ true → groupSound o bs x ≡ true
+  unfolding groupFree groupSound
+  free-group x h = all-i groupSize (λ k. soundRecord o bs (x + k)) (λ k l. free-sound (x + k) (all-at groupSize (λ k. eqb (word bs (x + k)) 0) h k l))
+
+  -- a group is sound where its levels fit and its numbers pass
+  pub group-is : (x : ℕ) → 0 < o .count → o .count < 128 → (levelsFit (o .count) bs x && allB groupSize (λ k. wordSound bs (x + k))) ≡ groupSound o bs x
+  unfolding levelsFit groupSound
+  group-is x some most = all-and groupSize _ _ _ (λ k. word-record o bs (x + k) long byte some most)
+
+  -- the records in use are all that there is to test
+  pub used-sound : (n : ℕ) → UsedEnd bs n → allSound o bs n ≡ true → allSound o bs numbers ≡ true
+  used-sound n u h = all-i numbers (λ y. soundRecord o bs y) (λ y l. ⊎-elim
+      (λ t. all-at n (λ y. soundRecord o bs y) h y (ltb-true y n t))
+      (λ f. free-sound y (u .free-rest y (ltb-false y n f) l))
+      (either (ltb y n)))
+
+-- ---- free groups at the end
+
+pub all-used : (bs : List ℕ) → UsedEnd bs numbers
+all-used bs = record { in-range = omega arith; whole = omega arith; free-rest = λ x l m. absurd (not-le-of-lt m l) }
+
+pub fewer-used : (bs : List ℕ) (n : ℕ) → UsedEnd bs n → groupSize ≤ n → groupFree bs (n - groupSize) ≡ true → UsedEnd bs (n - groupSize)
+unfolding groupFree
+fewer-used bs n u m h =
+    record {
+      in-range = omega (arith, u .in-range);
+      whole = omega (arith, u .whole);
+      free-rest = λ x l b. ⊎-elim
+          (λ t. let c = ltb-true x n t in
+          let e : (n - groupSize) + (x - (n - groupSize)) ≡ x = omega arith in
+          rw e at (all-at groupSize (λ k. eqb (word bs ((n - groupSize) + k)) 0) h (x - (n - groupSize)) (omega arith)))
+          (λ f. u .free-rest x (ltb-false x n f) b)
+          (either (ltb x n));
+    }

@@ -1,5 +1,5 @@
 pub mod Records
 pub mod RecordLaws
-pub mod HalfLaws
+pub mod WordLaws
 pub mod GroupLaws
 pub mod KeepLaws

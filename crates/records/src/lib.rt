@@ -1,6 +1,6 @@
 // The records of the numbers, and the test that the bytes are sound.
 ghost use mathlib.Core.Path.{_≡_};
-ghost use Prim.Native.Nat.{_*_, _≤_, _<_};
+ghost use Prim.Native.Nat.{_+_, _*_, _≤_, _<_};
 ghost use lib.ListN.{length, replicate};
 ghost use Rattle.records.specs.Records.{
   numbers,
@@ -11,12 +11,12 @@ ghost use Rattle.records.specs.Records.{
   kind,
   isTask,
   isObject,
-  coreRecord,
   soundRecord,
+  coreRecord,
   sound,
 };
-ghost use Rattle.records.specs.HalfLaws.{joined, half, word, taskHalves, containerFits, objectHalves};
-ghost use Rattle.records.specs.GroupLaws.{groupSize, groups, groupFree, groupSound};
+ghost use Rattle.records.specs.WordLaws.{joined, half, word, objectWord, taskWord, containerFits, wordSound};
+ghost use Rattle.records.specs.GroupLaws.{groupSize, groupFree, levelsFit, groupSound, UsedEnd, allSound};
 use levels::Order;
 
 // How many numbers there are, and the bytes of a record and of them all.
@@ -24,10 +24,11 @@ pub const NUMBERS: usize = 128;
 
 const RECORD_SIZE: usize = 8;
 
-// The numbers are tested in groups, so that a run of free numbers costs few tests.
-const GROUP_SIZE: usize = 4;
+// The records are tested in groups, so that a run of free ones costs few tests.
+const GROUP_SIZE: usize = 8;
 
-const GROUPS: usize = 32;
+// An order of fewer levels than this is tested by sums.
+const SUMMED: u16 = 128;
 
 pub const BYTES: usize = 1024;
 
@@ -121,7 +122,7 @@ pub fn clear_all(bytes: &mut [u8])
     }
 }
 
-// ---- soundness. Each record is read as two numbers of four bytes, which the compiler turns into two loads.
+// ---- soundness. A record is read as one number of eight bytes, which the compiler turns into one load.
 
 // Four bytes as one number, the first lowest.
 fn join(a: u8, b: u8, c: u8, d: u8) -> usize
@@ -155,17 +156,6 @@ fn kind_at(bytes: &[u8], x: usize) -> u8
     bytes[i]
 }
 
-// The test of a task: level and read level below the count; driver, container and the spare bytes 0; marks 0, 1 or 3.
-fn task_halves(low: usize, high: usize, count: usize) -> bool
-    ensures { λ r. ⌜ r ≡ taskHalves count low high ⌝ }
-{
-    if (low / 0x100 % 0x100 < count) & (low / 0x1_0000 < count) & (low < 0x100_0000) {
-        (high == 0) | (high == 0x100) | (high == 0x300)
-    } else {
-        false
-    }
-}
-
 // An object's container is the root sign or another object.
 fn container_sound(bytes: &[u8], x: usize, container: usize) -> bool
     requires { ⌜ length (now bytes) ≡ recordSize * numbers ⌝ }
@@ -184,41 +174,45 @@ fn container_sound(bytes: &[u8], x: usize, container: usize) -> bool
     }
 }
 
-// The test of the object x: level below the count, read level 0, a task as driver. The upper half less its lowest mark is the
-// container, or 256 and more where another mark or a spare byte is set.
-fn object_halves(bytes: &[u8], x: usize, low: usize, high: usize, count: usize) -> bool
-    requires { ⌜ length (now bytes) ≡ recordSize * numbers ⌝ }
-    ensures { λ r. ⌜ r ≡ objectHalves count (now (bytes .entry)) x low high ⌝ }
+// What an object's record shows by itself: kind 2, level and driver below 128, read level 0, marks 0 or 1, spare bytes 0. The
+// compiler joins these tests into one mask and one comparison.
+fn object_word(w: usize) -> bool
+    ensures { λ r. ⌜ r ≡ objectWord w ⌝ }
 {
-    let driver = low / 0x100_0000;
-    if (low / 0x100 % 0x100 < count) & (low / 0x1_0000 % 0x100 == 0) & (driver < NUMBERS) {
-        if kind_at(bytes, driver) == TASK {
-            container_sound(bytes, x, high - high / 0x100 % 2 * 0x100)
-        } else {
-            false
-        }
-    } else {
-        false
-    }
+    (w % 0x100 == 2)
+        & (w / 0x8000 % 2 == 0)
+        & (w / 0x1_0000 % 0x100 == 0)
+        & (w / 0x8000_0000 % 2 == 0)
+        & (w / 0x200_0000_0000 == 0)
 }
 
-fn record_sound(bytes: &[u8], order: Order, x: usize) -> bool
-    requires { ⌜ (length (now bytes) ≡ recordSize * numbers) × (x < numbers) ⌝ }
-    ensures { λ r. ⌜ r ≡ soundRecord order (now (bytes .entry)) x ⌝ }
+// And a task's: kind 1, level and read level below 128, driver and container 0, marks 0 to 3, spare bytes 0.
+fn task_word(w: usize) -> bool
+    ensures { λ r. ⌜ r ≡ taskWord w ⌝ }
 {
-    let low = half(bytes, x, 0);
-    let high = half(bytes, x, 4);
-    let kind = low % 0x100;
-    let count = order.count as usize;
-    if kind == TASK as usize {
-        task_halves(low, high, count)
-    } else {
-        if kind == OBJECT as usize {
-            object_halves(bytes, x, low, high, count)
-        } else {
-            (low == 0) & (high == 0)
+    (w % 0x100 == 1)
+        & (w / 0x8000 % 2 == 0)
+        & (w / 0x80_0000 % 2 == 0)
+        & (w / 0x100_0000 % 0x1_0000 == 0)
+        & (w / 0x400_0000_0000 == 0)
+}
+
+// The record of x is sound, but that its levels are only known to be below 128.
+fn record_sound(bytes: &[u8], x: usize) -> bool
+    requires { ⌜ (length (now bytes) ≡ recordSize * numbers) × (x < numbers) ⌝ }
+    ensures { λ r. ⌜ r ≡ wordSound (now (bytes .entry)) x ⌝ }
+{
+    let w = word(bytes, x);
+    if object_word(w) {
+        if kind_at(bytes, w / 0x100_0000 % 0x80) != TASK {
+            return false;
         }
+        return container_sound(bytes, x, w / 0x1_0000_0000 % 0x100);
     }
+    if w == 0 {
+        return true;
+    }
+    task_word(w) & (w / 0x100_0000_0000 != 2)
 }
 
 // Number 0 is a task at the top level.
@@ -228,32 +222,111 @@ fn core_sound(bytes: &[u8], order: Order) -> bool
     is_task(bytes, 0) & (field(bytes, 0, LEVEL) as u16 == order.top)
 }
 
-// The records of the group g are all free: one test for four numbers.
-fn group_free(bytes: &[u8], g: usize) -> bool
-    requires { ⌜ (length (now bytes) ≡ recordSize * numbers) × (g < groups) ⌝ }
-    ensures { λ r. ⌜ r ≡ groupFree (now (bytes .entry)) g ⌝ }
+// The records of the group from x on are free.
+fn group_free(bytes: &[u8], x: usize) -> bool
+    requires { ⌜ (length (now bytes) ≡ recordSize * numbers) × (x + groupSize ≤ numbers) ⌝ }
+    ensures { λ r. ⌜ r ≡ groupFree (now (bytes .entry)) x ⌝ }
 {
-    let x = GROUP_SIZE * g;
-    (word(bytes, x) == 0)
-        & (word(bytes, x + 1) == 0)
-        & (word(bytes, x + 2) == 0)
-        & (word(bytes, x + 3) == 0)
+    let mut any: usize = 0;
+    let mut k: usize = 0;
+    while k < GROUP_SIZE {
+        any = any | word(bytes, x + k);
+        k += 1;
+    }
+    any == 0
 }
 
-// The records of the group g are sound.
-fn group_sound(bytes: &[u8], order: Order, g: usize) -> bool
-    requires { ⌜ (length (now bytes) ≡ recordSize * numbers) × (g < groups) ⌝ }
-    ensures { λ r. ⌜ r ≡ groupSound order (now (bytes .entry)) g ⌝ }
+// The levels and read levels of the group from x on are below the count, if they are below 128: with 128 less the count added,
+// none reaches 128, which is bit 15 of the number for the level and bit 23 for the read level.
+fn levels_fit(bytes: &[u8], x: usize, count: usize) -> bool
+    requires { ⌜ (length (now bytes) ≡ recordSize * numbers) × (x + groupSize ≤ numbers) × (count < 128) ⌝ }
+    ensures { λ r. ⌜ r ≡ levelsFit count (now (bytes .entry)) x ⌝ }
 {
-    if group_free(bytes, g) {
+    let rise = (0x80 - count) * 0x1_0100;
+    let mut any: usize = 0;
+    let mut k: usize = 0;
+    while k < GROUP_SIZE {
+        any = any | (word(bytes, x + k) % 0x100_0000 + rise);
+        k += 1;
+    }
+    (any / 0x8000 % 2 == 0) & (any / 0x80_0000 % 2 == 0)
+}
+
+// The records of the group from x on are sound.
+fn group_sound(bytes: &[u8], order: Order, x: usize) -> bool
+    requires { ⌜ (length (now bytes) ≡ recordSize * numbers) × (x + groupSize ≤ numbers) × (0 < order .count) × (order .count < 128) ⌝ }
+    ensures { λ r. ⌜ r ≡ groupSound order (now (bytes .entry)) x ⌝ }
+{
+    if group_free(bytes, x) {
         return true;
+    }
+    if !levels_fit(bytes, x, order.count as usize) {
+        return false;
     }
     let mut k: usize = 0;
     while k < GROUP_SIZE {
-        if !record_sound(bytes, order, GROUP_SIZE * g + k) {
+        if !record_sound(bytes, x + k) {
             return false;
         }
         k += 1;
+    }
+    true
+}
+
+// A number from which on the records are free, so that few records in use cost few tests. Those before it are whole groups.
+fn used_end(bytes: &[u8]) -> usize
+    requires { ⌜ length (now bytes) ≡ recordSize * numbers ⌝ }
+    ensures { λ r. ⌜ UsedEnd (now (bytes .entry)) r ⌝ }
+{
+    let mut end: usize = NUMBERS;
+    while end > GROUP_SIZE {
+        if !group_free(bytes, end - GROUP_SIZE) {
+            return end;
+        }
+        end = end - GROUP_SIZE;
+    }
+    end
+}
+
+// ---- the same without sums, for an order of no level or of more than the sums can test
+
+// The record of x is sound, field by field. The spare bytes stand above the marks.
+fn plain_record(bytes: &[u8], order: Order, x: usize) -> bool
+    requires { ⌜ (length (now bytes) ≡ recordSize * numbers) × (x < numbers) ⌝ }
+    ensures { λ r. ⌜ r ≡ soundRecord order (now (bytes .entry)) x ⌝ }
+{
+    let w = word(bytes, x);
+    let level = w / 0x100 % 0x100;
+    let read_level = w / 0x1_0000 % 0x100;
+    let driver = w / 0x100_0000 % 0x100;
+    let container = w / 0x1_0000_0000 % 0x100;
+    let marks = w / 0x100_0000_0000;
+    let count = order.count as usize;
+    let task = (w % 0x100 == 1)
+        & (level < count)
+        & (read_level < count)
+        & (driver == 0)
+        & (container == 0)
+        & ((marks == 0) | (marks == 1) | (marks == 3));
+    let object = (w % 0x100 == 2)
+        & (level < count)
+        & (read_level == 0)
+        & is_task(bytes, driver as u16)
+        & container_sound(bytes, x, container)
+        & ((marks == 0) | (marks == 1));
+    (w == 0) | task | object
+}
+
+fn plain_records(bytes: &[u8], order: Order) -> bool
+    requires { ⌜ length (now bytes) ≡ recordSize * numbers ⌝ }
+    ensures { λ r. ⌜ r ≡ allSound order (now (bytes .entry)) numbers ⌝ }
+{
+    let mut x: usize = 0;
+    while x < NUMBERS {
+        if !plain_record(bytes, order, x) {
+            return false;
+        }
+        x += 1;
     }
     true
 }
@@ -268,12 +341,16 @@ pub fn sound(bytes: &[u8], order: Order) -> bool
     if !core_sound(bytes, order) {
         return false;
     }
-    let mut g: usize = 0;
-    while g < GROUPS {
-        if !group_sound(bytes, order, g) {
+    if !((order.count > 0) & (order.count < SUMMED)) {
+        return plain_records(bytes, order);
+    }
+    let end = used_end(bytes);
+    let mut x: usize = 0;
+    while x < end {
+        if !group_sound(bytes, order, x) {
             return false;
         }
-        g += 1;
+        x += GROUP_SIZE;
     }
     true
 }

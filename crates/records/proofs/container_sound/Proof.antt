@@ -3,7 +3,7 @@ use borrow.Author.Needs.{needs}
 use borrow.Author.Tests.{eq-eqb, ne-eqb}
 use Rattle.records.specs.Records.{isObject}
 use Rattle.records.specs.RecordLaws.{field-past}
-use Rattle.records.specs.HalfLaws.{containerFits}
+use Rattle.records.specs.WordLaws.{containerFits}
 use Rattle.records.proofs.container_sound.Statement.{statement}
 use Rattle.records.proofs.container_sound.Tie as tie
 

@@ -1,48 +1,48 @@
-use native.Mathlib.Nat.{add-zero}
+-- Before turn k `any` is zero where the first k records are free.
+-- Assumes nothing.
+use mathlib.Core.Path.{_≡_, sym, _∙_}
+use Prim.Native.Nat.{_≤_, _-_, _+_}
+use native.Mathlib.Omega.{arith}
+use lib.Dec.{eqb}
 use borrow.Author.Needs.{needs}
 use Rattle.bits.specs.All.{allB}
-use Rattle.records.specs.GroupLaws.{groupFree}
+use Rattle.bits.specs.AllLaws.{all-none}
+use Rattle.records.specs.WordLaws.{word}
+use Rattle.records.specs.GroupLaws.{groupSize, groupFree, or-zero, all-step}
 use Rattle.records.proofs.group_free.Statement.{statement}
 use Rattle.records.proofs.group_free.Tie as tie
 
-mul-x : tie.Need-mul-x
-mul-x c = search needs
+abbrev Inv-loop : tie.InvT-loop
+Inv-loop bytes x any₀ k₀ any k = (k ≤ groupSize) × (eqb any 0 ≡ allB k (λ j. eqb (word bytes (x + j)) 0))
 
-word-requires : tie.Need-word-requires
-word-requires c κs = search needs
+abbrev μ-loop : tie.MeasureT-loop
+μ-loop bytes x any₀ k₀ any k = groupSize - k
 
-add-word : tie.Need-add-word
+loop-holds : tie.Need-loop-holds Inv-loop μ-loop
+loop-holds c = (omega arith, sym (all-none _))
+
+add-word : tie.Need-add-word Inv-loop μ-loop
 add-word c = search needs
 
-word-requires-2 : tie.Need-word-requires-2
-word-requires-2 c κs = search needs
+word-requires : tie.Need-word-requires Inv-loop μ-loop
+word-requires c κs = search needs
 
-add-word-2 : tie.Need-add-word-2
-add-word-2 c = search needs
+add-k : tie.Need-add-k Inv-loop μ-loop
+add-k c = search needs
 
-word-requires-3 : tie.Need-word-requires-3
-word-requires-3 c κs = search needs
+loop-less : tie.Need-loop-less Inv-loop μ-loop
+loop-less c = omega arith
 
-add-word-3 : tie.Need-add-word-3
-add-word-3 c = search needs
+loop-again : tie.Need-loop-again Inv-loop μ-loop
+loop-again c = (omega arith, or-zero (c .before .before .loop .any) _ ∙ simp (c .before .before .loop .inv .1, c .word .ensures, all-step))
 
-word-requires-4 : tie.Need-word-requires-4
-word-requires-4 c κs = search needs
-
-returns : tie.Need-returns
-unfolding groupFree allB
-returns c = simp (add-zero, c .word4 .ensures, c .before .word3 .ensures, c .before .before .word2 .ensures, c .before .before .before .word .ensures)
+returns : tie.Need-returns Inv-loop μ-loop
+unfolding groupFree
+returns c =
+    let e : c .before .loop .k ≡ groupSize = omega arith in
+    rw e at (c .before .loop .inv .1)
 
 pub group-free-spec : {M : Type 1} → statement M
 group-free-spec =
     tie.close
-    (tie.spec
-    mul-x
-    word-requires
-    add-word
-    word-requires-2
-    add-word-2
-    word-requires-3
-    add-word-3
-    word-requires-4
-    returns)
+    (tie.spec Inv-loop μ-loop loop-holds add-word word-requires add-k loop-less loop-again returns)

@@ -1,23 +1,23 @@
--- Before turn k the first k records of the group are sound.
+-- Before turn k the first k records of the group pass.
 -- Assumes nothing.
 use mathlib.Core.Path.{_≡_, sym, _∙_}
 use mathlib.Core.Bool.{true}
-use Prim.Native.Nat.{_≤_, _-_, _+_, _*_}
+use Prim.Native.Nat.{_≤_, _-_, _+_}
 use native.Mathlib.Omega.{arith}
 use borrow.Author.Needs.{needs}
 use borrow.Author.Tests.{not-true, not-false}
 use Rattle.bits.specs.All.{allB}
 use Rattle.bits.specs.AllLaws.{all-none, all-more, all-fails}
-use Rattle.records.specs.Records.{soundRecord}
-use Rattle.records.specs.GroupLaws.{groupSize, groupSound, free-group}
+use Rattle.records.specs.WordLaws.{wordSound}
+use Rattle.records.specs.GroupLaws.{groupSize, free-group, group-is}
 use Rattle.records.proofs.group_sound.Statement.{statement}
 use Rattle.records.proofs.group_sound.Tie as tie
 
 abbrev Inv-loop : tie.InvT-loop
-Inv-loop bytes order g k₀ k = (k ≤ groupSize) × (allB k (λ j. soundRecord order bytes (groupSize * g + j)) ≡ true)
+Inv-loop bytes x k₀ k = (k ≤ groupSize) × (allB k (λ j. wordSound bytes (x + j)) ≡ true)
 
 abbrev μ-loop : tie.MeasureT-loop
-μ-loop bytes order g k₀ k = groupSize - k
+μ-loop bytes x k₀ k = groupSize - k
 
 group-free-requires : tie.Need-group-free-requires Inv-loop μ-loop
 group-free-requires c κs = search needs
@@ -25,13 +25,22 @@ group-free-requires c κs = search needs
 returns : tie.Need-returns Inv-loop μ-loop
 returns c =
     let s = c .before .before in
-    sym (free-group (s .before .args .order) _ (s .before .args .g) (s .before .pre .0) (s .shared-slice-known .given) (sym (c .before .group-free .ensures) ∙ c .if1 .taken))
+    sym (free-group (s .before .args .order) _ (s .before .pre .0) (s .shared-slice-known .given) (s .before .args .x) (sym (c .before .group-free .ensures) ∙ c .if1 .taken))
+
+cast-levels-fit : tie.Need-cast-levels-fit Inv-loop μ-loop
+cast-levels-fit c = search needs
+
+levels-fit-requires : tie.Need-levels-fit-requires Inv-loop μ-loop
+levels-fit-requires c κs = search needs
+
+returns-2 : tie.Need-returns-2 Inv-loop μ-loop
+returns-2 c =
+    let s = c .before .before .before .before .before in
+    rw (sym (c .before .levels-fit .ensures) ∙ not-true _ (c .if2 .taken)) at
+    (group-is (s .before .args .order) (s .before .args .bytes .now) (s .before .pre .0) (s .shared-slice-known .given) (s .before .args .x) (s .before .pre .2) (s .before .pre .3))
 
 loop-holds : tie.Need-loop-holds Inv-loop μ-loop
 loop-holds c = (omega arith, all-none _)
-
-mul-record-sound : tie.Need-mul-record-sound Inv-loop μ-loop
-mul-record-sound c = search needs
 
 add-record-sound : tie.Need-add-record-sound Inv-loop μ-loop
 add-record-sound c = search needs
@@ -39,10 +48,15 @@ add-record-sound c = search needs
 record-sound-requires : tie.Need-record-sound-requires Inv-loop μ-loop
 record-sound-requires c κs = search needs
 
-returns-2 : tie.Need-returns-2 Inv-loop μ-loop
-unfolding groupSound
-returns-2 c =
-    sym (all-fails groupSize _ (c .before .before .before .loop .k) (c .before .before .loop-test .taken) (sym (c .before .record-sound .ensures) ∙ not-true _ (c .if2 .taken)))
+returns-3 : tie.Need-returns-3 Inv-loop μ-loop
+returns-3 c =
+    let l = c .before .before .before .before in
+    let s = l .before .before .before .before .before in
+    rw (
+      sym (l .before .levels-fit .ensures) ∙ not-false _ (l .if2 .left),
+      all-fails groupSize _ (c .before .before .before .loop .k) (c .before .before .loop-test .taken) (sym (c .before .record-sound .ensures) ∙ not-true _ (c .if3 .taken)),
+    ) at
+    (group-is (s .before .args .order) (s .before .args .bytes .now) (s .before .pre .0) (s .shared-slice-known .given) (s .before .args .x) (s .before .pre .2) (s .before .pre .3))
 
 add-k : tie.Need-add-k Inv-loop μ-loop
 add-k c = search needs
@@ -51,13 +65,15 @@ loop-less : tie.Need-loop-less Inv-loop μ-loop
 loop-less c = omega arith
 
 loop-again : tie.Need-loop-again Inv-loop μ-loop
-loop-again c = (omega arith, all-more _ _ (c .before .before .before .loop .inv .1) (sym (c .before .record-sound .ensures) ∙ not-false _ (c .if2 .left)))
+loop-again c = (omega arith, all-more _ _ (c .before .before .before .loop .inv .1) (sym (c .before .record-sound .ensures) ∙ not-false _ (c .if3 .left)))
 
-returns-3 : tie.Need-returns-3 Inv-loop μ-loop
-unfolding groupSound
-returns-3 c =
+returns-4 : tie.Need-returns-4 Inv-loop μ-loop
+returns-4 c =
     let e : c .before .loop .k ≡ groupSize = omega arith in
-    sym (rw e at (c .before .loop .inv .1))
+    let l = c .before .before in
+    let s = l .before .before .before .before .before in
+    rw (sym (l .before .levels-fit .ensures) ∙ not-false _ (l .if2 .left), rw e at (c .before .loop .inv .1)) at
+    (group-is (s .before .args .order) (s .before .args .bytes .now) (s .before .pre .0) (s .shared-slice-known .given) (s .before .args .x) (s .before .pre .2) (s .before .pre .3))
 
 pub group-sound-spec : {M : Type 1} → statement M
 group-sound-spec =
@@ -67,12 +83,14 @@ group-sound-spec =
     μ-loop
     group-free-requires
     returns
+    cast-levels-fit
+    levels-fit-requires
+    returns-2
     loop-holds
-    mul-record-sound
     add-record-sound
     record-sound-requires
-    returns-2
+    returns-3
     add-k
     loop-less
     loop-again
-    returns-3)
+    returns-4)

@@ -1,7 +1,7 @@
 use mathlib.Core.Path.{_∙_}
 use native.Mathlib.Nat.{add-assoc}
 use Rattle.records.specs.Records.{field}
-use Rattle.records.specs.HalfLaws.{half}
+use Rattle.records.specs.WordLaws.{half}
 use borrow.Author.Needs.{needs}
 use Rattle.records.proofs.half.Statement.{statement}
 use Rattle.records.proofs.half.Tie as tie

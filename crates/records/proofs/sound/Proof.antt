@@ -1,23 +1,23 @@
--- Before turn g all groups below g are sound.
+-- Before turn x all records below x are sound.
 -- Assumes nothing.
 use mathlib.Core.Path.{_≡_, sym, _∙_}
-use mathlib.Core.Bool.{true}
-use Prim.Native.Nat.{_≤_, _-_}
+use mathlib.Core.Bool.{true, _&&_, and-eq-true-iff}
+use Prim.Native.Nat.{_≤_, _-_, _%_}
 use native.Mathlib.Omega.{arith}
+use lib.Dec.{ltb}
 use borrow.Author.Needs.{needs}
-use borrow.Author.Tests.{eq-eqb, ne-eqb, not-true, not-false}
-use Rattle.bits.specs.All.{allB}
-use Rattle.bits.specs.AllLaws.{all-none, all-more, and-false}
+use borrow.Author.Tests.{eq-eqb, ne-eqb, ltb-true, not-true, not-false}
+use Rattle.bits.specs.AllLaws.{all-none, and-false}
 use Rattle.records.specs.Records.{sound}
-use Rattle.records.specs.GroupLaws.{groups, groupSound, all-groups, unsound-group}
+use Rattle.records.specs.GroupLaws.{groupSize, allSound, next-group, unsound-group, used-sound}
 use Rattle.records.proofs.sound.Statement.{statement}
 use Rattle.records.proofs.sound.Tie as tie
 
 abbrev Inv-loop : tie.InvT-loop
-Inv-loop bytes order g₀ g = (g ≤ groups) × (allB g (λ j. groupSound order bytes j) ≡ true)
+Inv-loop bytes order end x₀ x = (x ≤ end) × (x % groupSize ≡ 0) × (allSound order bytes x ≡ true)
 
 abbrev μ-loop : tie.MeasureT-loop
-μ-loop bytes order g₀ g = groups - g
+μ-loop bytes order end x₀ x = end - x
 
 returns : tie.Need-returns Inv-loop μ-loop
 unfolding sound
@@ -30,31 +30,50 @@ returns-2 : tie.Need-returns-2 Inv-loop μ-loop
 unfolding sound
 returns-2 c = simp (sym (c .before .core-sound .ensures) ∙ not-true _ (c .if2 .taken), and-false)
 
-loop-holds : tie.Need-loop-holds Inv-loop μ-loop
-loop-holds c = (omega arith, all-none _)
-
-group-sound-requires : tie.Need-group-sound-requires Inv-loop μ-loop
-group-sound-requires c κs = search needs
+plain-records-requires : tie.Need-plain-records-requires Inv-loop μ-loop
+plain-records-requires c κs = search needs
 
 returns-3 : tie.Need-returns-3 Inv-loop μ-loop
+unfolding sound
 returns-3 c =
-    sym (unsound-group _ _ (c .before .before .before .loop .g) (c .before .before .loop-test .taken) (sym (c .before .group-sound .ensures) ∙ not-true _ (c .if3 .taken)))
+    let s = c .before .before .before .before in
+    simp (eq-eqb _ _ (s .before .before .if1 .left), sym (s .before .core-sound .ensures) ∙ not-false _ (s .if2 .left), c .plain-records .ensures)
 
-add-g : tie.Need-add-g Inv-loop μ-loop
-add-g c = search needs
+used-end-requires : tie.Need-used-end-requires Inv-loop μ-loop
+used-end-requires c κs = search needs
+
+loop-holds : tie.Need-loop-holds Inv-loop μ-loop
+loop-holds c = (omega arith, omega arith, all-none _)
+
+group-sound-requires : tie.Need-group-sound-requires Inv-loop μ-loop
+group-sound-requires c κs =
+    let t = c .before .before .before in
+    let n = t .before .before .before .before .before .before .before .args .order .count in
+    let p = simp and-eq-true-iff at (not-false (ltb 0 n && ltb n 0x80) (t .if3 .left)) in
+    (search needs, omega arith, ltb-true _ _ (p .0), ltb-true _ _ (p .1))
+
+returns-4 : tie.Need-returns-4 Inv-loop μ-loop
+unfolding sound
+returns-4 c =
+    simp (unsound-group _ _ (c .before .before .before .loop .x) (omega arith) (sym (c .before .group-sound .ensures) ∙ not-true _ (c .if4 .taken)), and-false)
+
+add-x : tie.Need-add-x Inv-loop μ-loop
+add-x c = search needs
 
 loop-less : tie.Need-loop-less Inv-loop μ-loop
 loop-less c = omega arith
 
 loop-again : tie.Need-loop-again Inv-loop μ-loop
-loop-again c = (omega arith, all-more _ _ (c .before .before .before .loop .inv .1) (sym (c .before .group-sound .ensures) ∙ not-false _ (c .if3 .left)))
+loop-again c = (omega arith, omega arith, next-group _ _ (c .before .before .before .loop .x) (c .before .before .before .loop .inv .2) (sym (c .before .group-sound .ensures) ∙ not-false _ (c .if4 .left)))
 
-returns-4 : tie.Need-returns-4 Inv-loop μ-loop
+returns-5 : tie.Need-returns-5 Inv-loop μ-loop
 unfolding sound
-returns-4 c =
-    let e : c .before .loop .g ≡ groups = omega arith in
-    let h = sym (all-groups _ _) ∙ (rw e at (c .before .loop .inv .1)) in
-    simp (eq-eqb _ _ (c .before .before .before .before .if1 .left), sym (c .before .before .before .core-sound .ensures) ∙ not-false _ (c .before .before .if2 .left), h)
+returns-5 c =
+    let e : c .before .loop .x ≡ c .before .before .used-end .result = omega arith in
+    let s = c .before .before .before .before .before .before in
+    let a = s .before .before .before in
+    let h = used-sound (a .before .args .order) _ (s .before .before .if1 .left) (a .shared-slice-known .given) _ (c .before .before .used-end .ensures) (rw e at (c .before .loop .inv .2)) in
+    simp (eq-eqb _ _ (s .before .before .if1 .left), sym (s .before .core-sound .ensures) ∙ not-false _ (s .if2 .left), h)
 
 pub sound-spec : {M : Type 1} → statement M
 sound-spec =
@@ -65,10 +84,13 @@ sound-spec =
     returns
     core-sound-requires
     returns-2
+    plain-records-requires
+    returns-3
+    used-end-requires
     loop-holds
     group-sound-requires
-    returns-3
-    add-g
+    returns-4
+    add-x
     loop-less
     loop-again
-    returns-4)
+    returns-5)

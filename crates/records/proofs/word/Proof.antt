@@ -1,6 +1,6 @@
 use Prim.Native.Nat.{ℕ, _<_}
 use native.Mathlib.Omega.{arith}
-use Rattle.records.specs.HalfLaws.{half, word, half-below}
+use Rattle.records.specs.WordLaws.{half, word, half-below}
 use borrow.Author.Needs.{needs}
 use Rattle.records.proofs.word.Statement.{statement}
 use Rattle.records.proofs.word.Tie as tie

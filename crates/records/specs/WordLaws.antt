@@ -1,0 +1,276 @@
+-- A record read as one number of eight bytes, and the tests of soundness on it.
+-- Assumes nothing.
+use mathlib.Core.Path.{_≡_, refl, sym, _∙_}
+use mathlib.Core.Logic.{inl, inr, ⊎-elim}
+use mathlib.Core.Bool.{Bool, true, false, not, cond, _&&_, _||_, and-eq-true-iff, true-and, and-assoc}
+use mathlib.Core.List.{List}
+use Prim.Native.Nat.{ℕ, _+_, _-_, _*_, _/_, _%_, _<_, _≤_}
+use native.Mathlib.Nat.{lt-of-not-le, add-mul-mod-self-left, mod-eq-of-lt}
+use native.Mathlib.Omega.{arith}
+use lib.Dec.{ltb, eqb}
+use lib.ListN.{getD, length}
+use mir.Syntax.{w8}
+use mir.Val.{Fits}
+use borrow.Author.Tests.{eqb-true, eqb-false, eq-eqb, ne-eqb, ltb-true, lt-ltb, ltb-false, not-true}
+use Rattle.bits.specs.All.{allB}
+use Rattle.bits.specs.AllLaws.{and-i, and-r, both-ways, either, or-false}
+use Rattle.bits.specs.BitLaws.{digit}
+use Rattle.levels.specs.declared.Order.{Order}
+use Rattle.records.specs.Records.{numbers, recordSize, rootSign, field, kind, level, readLevel, driver, container, marks, spare, isTask, isObject, freeRecord, taskRecord, objectRecord, soundRecord}
+use Rattle.records.specs.RecordLaws.{one-of-two, two-of, sound-task, sound-object, sound-else, field-past}
+
+-- four bytes as one number, the first lowest
+abbrev pub joined : ℕ → ℕ → ℕ → ℕ → ℕ
+joined a b c d = a + b * 0x100 + c * 0x1_0000 + d * 0x100_0000
+
+-- the half of the record of x that starts at f: at 0 kind, level, read level and driver, at 4 container, marks and the spare bytes
+unfoldable pub half : List ℕ → ℕ → ℕ → ℕ
+half bs x f = joined (field bs x f) (field bs x (f + 1)) (field bs x (f + 2)) (field bs x (f + 3))
+
+-- the whole record of x as one number
+unfoldable pub word : List ℕ → ℕ → ℕ
+word bs x = half bs x 0 + half bs x 4 * 0x1_0000_0000
+
+-- kind 2, level and driver below 128, read level 0, marks 0 or 1, spare bytes 0
+unfoldable pub objectWord : ℕ → Bool
+objectWord w = eqb (w % 0x100) 2 && eqb (w / 0x8000 % 2) 0 && eqb (w / 0x1_0000 % 0x100) 0 && eqb (w / 0x8000_0000 % 2) 0 && eqb (w / 0x200_0000_0000) 0
+
+-- kind 1, level and read level below 128, driver and container 0, marks 0 to 3, spare bytes 0
+unfoldable pub taskWord : ℕ → Bool
+taskWord w = eqb (w % 0x100) 1 && eqb (w / 0x8000 % 2) 0 && eqb (w / 0x80_0000 % 2) 0 && eqb (w / 0x100_0000 % 0x1_0000) 0 && eqb (w / 0x400_0000_0000) 0
+
+-- the container c of the object x is the root sign or another object
+unfoldable pub containerFits : List ℕ → ℕ → ℕ → Bool
+containerFits bs x c = eqb c rootSign || (isObject bs c && not (eqb c x))
+
+-- the record of x is sound, but that its levels are below 128 and not below the count
+unfoldable pub wordSound : List ℕ → ℕ → Bool
+wordSound bs x =
+    cond (objectWord (word bs x))
+    (isTask bs (word bs x / 0x100_0000 % 0x80) && containerFits bs x (word bs x / 0x1_0000_0000 % 0x100))
+    (eqb (word bs x) 0 || (taskWord (word bs x) && not (eqb (word bs x / 0x100_0000_0000) 2)))
+
+-- the level and the read level of w, each with 128 less the count added
+abbrev pub raised : ℕ → ℕ → ℕ
+raised count w = w % 0x100_0000 + (0x80 - count) * 0x1_0100
+
+-- neither of the two reaches 128
+unfoldable pub below : ℕ → Bool
+below s = eqb (s / 0x8000 % 2) 0 && eqb (s / 0x80_0000 % 2) 0
+
+-- the marks of an object, and of a task
+abbrev pub objectMarks : ℕ → Bool
+objectMarks m = eqb m 0 || eqb m 1
+
+abbrev pub taskMarks : ℕ → Bool
+taskMarks m = objectMarks m || eqb m 3
+
+-- the record of x is sound, each field tested by itself
+unfoldable pub plainSound : ℕ → List ℕ → ℕ → Bool
+plainSound count bs x =
+    let w = word bs x in
+    let d = w / 0x100_0000 % 0x100 in
+    let c = w / 0x1_0000_0000 % 0x100 in
+    let m = w / 0x100_0000_0000 in
+    eqb w 0
+    || (eqb (w % 0x100) 1 && ltb (w / 0x100 % 0x100) count && ltb (w / 0x1_0000 % 0x100) count && eqb d 0 && eqb c 0 && taskMarks m)
+    || (eqb (w % 0x100) 2 && ltb (w / 0x100 % 0x100) count && eqb (w / 0x1_0000 % 0x100) 0 && isTask bs d && containerFits bs x c && objectMarks m)
+
+-- ---- numbers
+
+cond-and : (a b : Bool) → cond a b false ≡ (a && b)
+cond-and true b = refl
+cond-and false b = refl
+
+object-marks : (m : ℕ) → objectMarks m ≡ ltb m 2
+object-marks m =
+    both-ways _ _
+    (λ h. ⊎-elim (λ e. lt-ltb m 2 (omega arith)) (λ e. lt-ltb m 2 (omega arith)) (one-of-two m 0 1 h))
+    (λ h. two-of m 0 1 (⊎-elim (λ e. inl (omega (arith, ltb-true))) (λ e. inr (omega (arith, ltb-true))) (digit m)))
+
+task-marks : (m : ℕ) → taskMarks m ≡ (ltb m 4 && not (eqb m 2))
+task-marks m =
+    rw (object-marks m) (⊎-elim
+    (λ (t : ltb m 2 ≡ true). let l = ltb-true m 2 t in simp (t, lt-ltb m 4 (omega arith), ne-eqb m 2 (omega arith)))
+    (λ (f : ltb m 2 ≡ false). let l = ltb-false m 2 f in simp f (both-ways _ _
+    (λ h. let e = eqb-true m 3 h in simp (lt-ltb m 4 (omega arith), ne-eqb m 2 (omega arith)))
+    (λ h. let p = simp and-eq-true-iff at h in let n = eqb-false m 2 (not-true _ (p .1)) in omega (arith, ltb-true, eq-eqb))))
+    (either (ltb m 2)))
+
+-- of a level and a read level below 128, with 128 less n added to each, neither reaches 128 where both are below n
+below-is : (k l r n : ℕ) → k < 0x100 → l < 0x80 → r < 0x80 → n < 0x80 → below (k + l * 0x100 + r * 0x1_0000 + (0x80 - n) * 0x1_0100) ≡ (ltb l n && ltb r n)
+unfolding below
+below-is k l r n hk hl hr hn =
+    let s = k + l * 0x100 + r * 0x1_0000 + (0x80 - n) * 0x1_0100 in
+    let e : s / 0x8000 ≡ (l + (0x80 - n)) / 0x80 + 2 * (r + (0x80 - n)) = omega arith in
+    let f : s / 0x80_0000 ≡ (r + (0x80 - n)) / 0x80 = omega arith in
+    let u : (y : ℕ) → y < 0x80 → (y + (0x80 - n)) / 0x80 < 2 = λ y b. omega arith in
+    rw (e, f, add-mul-mod-self-left, mod-eq-of-lt (u l hl), mod-eq-of-lt (u r hr)) (both-ways _ _
+    (λ h. let p = simp and-eq-true-iff at h in simp and-eq-true-iff (omega (arith, eqb-true, lt-ltb)))
+    (λ h. let p = simp and-eq-true-iff at h in simp and-eq-true-iff (omega (arith, ltb-true, eq-eqb))))
+
+pub half-below : (bs : List ℕ) (x f : ℕ) → ((i : ℕ) → Fits w8 (getD bs i 0)) → half bs x f < 0x1_0000_0000
+unfolding half field
+half-below bs x f byte = omega (arith, byte (recordSize * x + f) .fits, byte (recordSize * x + (f + 1)) .fits, byte (recordSize * x + (f + 2)) .fits, byte (recordSize * x + (f + 3)) .fits)
+
+-- ---- over bytes, the number says what the fields say
+
+module _ (o : Order) (bs : List ℕ) (x : ℕ) (long : length bs ≡ recordSize * numbers) (byte : (i : ℕ) → Fits w8 (getD bs i 0)) where
+  byte-of : (f : ℕ) → field bs x f < 256
+  unfolding field
+  byte-of f = byte _ .fits
+
+  w-kind : word bs x % 0x100 ≡ kind bs x
+  unfolding word half
+  w-kind = omega (arith, byte-of 0)
+
+  w-level : word bs x / 0x100 % 0x100 ≡ level bs x
+  unfolding word half
+  w-level = omega (arith, byte-of 0, byte-of 1)
+
+  w-read : word bs x / 0x1_0000 % 0x100 ≡ readLevel bs x
+  unfolding word half
+  w-read = omega (arith, byte-of 0, byte-of 1, byte-of 2)
+
+  w-driver : word bs x / 0x100_0000 % 0x100 ≡ driver bs x
+  unfolding word half
+  w-driver = omega (arith, byte-of 0, byte-of 1, byte-of 2, byte-of 3)
+
+  w-container : word bs x / 0x1_0000_0000 % 0x100 ≡ container bs x
+  unfolding word half
+  w-container = omega (arith, byte-of 0, byte-of 1, byte-of 2, byte-of 3, byte-of 4)
+
+  -- the marks, and the spare bytes above them
+  rest : ℕ
+  rest = marks bs x + field bs x 6 * 0x100 + field bs x 7 * 0x1_0000
+
+  w-rest : word bs x / 0x100_0000_0000 ≡ rest
+  unfolding rest word half
+  w-rest = omega (arith, byte-of 0, byte-of 1, byte-of 2, byte-of 3, byte-of 4)
+
+  -- a test that no number of more than a byte passes is one of the marks, and of zeros in the spare bytes
+  marks-rest : (p : ℕ → Bool) → ((n : ℕ) → p n ≡ true → n < 0x100) → p rest ≡ (p (marks bs x) && spare bs x)
+  unfolding rest
+  marks-rest p small =
+      both-ways _ _
+      (λ h. let l = small rest h in let e : rest ≡ marks bs x = omega (arith, byte-of 5) in and-i (rw e at h) (simp and-eq-true-iff (omega (arith, eq-eqb))))
+      (λ h. let q = simp and-eq-true-iff at h in let e : rest ≡ marks bs x = omega (arith, eqb-true) in rw e (q .0))
+
+  task-is : taskRecord o bs x
+      ≡ (eqb (kind bs x) 1 && ltb (level bs x) (o .count) && ltb (readLevel bs x) (o .count) && eqb (driver bs x) 0 && eqb (container bs x) 0 && taskMarks rest)
+  unfolding taskRecord isTask
+  task-is = rw (marks-rest taskMarks (λ n h. let p = simp (task-marks, and-eq-true-iff) at h in omega (arith, ltb-true))) (simp and-assoc)
+
+  object-is : objectRecord o bs x
+      ≡ (eqb (kind bs x) 2 && ltb (level bs x) (o .count) && eqb (readLevel bs x) 0 && isTask bs (driver bs x) && containerFits bs x (container bs x) && objectMarks rest)
+  unfolding objectRecord isObject containerFits
+  object-is = rw (marks-rest objectMarks (λ n h. let p = simp object-marks at h in omega (arith, ltb-true))) (simp and-assoc)
+
+  -- all eight bytes are zero
+  pub free-word : eqb (word bs x) 0 ≡ freeRecord bs x
+  unfolding word half freeRecord allB
+  free-word =
+      both-ways _ _
+      (λ h. simp (true-and, and-eq-true-iff) (omega (arith, eqb-true, eq-eqb)))
+      (λ h. let p = simp (true-and, and-eq-true-iff) at h in omega (arith, eqb-true, eq-eqb))
+
+  pub plain-record : plainSound (o .count) bs x ≡ soundRecord o bs x
+  unfolding plainSound soundRecord
+  plain-record = simp (free-word, task-is, object-is, w-kind, w-level, w-read, w-driver, w-container, w-rest)
+
+  -- ---- the tests of the levels, and of many fields at once
+
+  w-low : word bs x % 0x100_0000 ≡ kind bs x + level bs x * 0x100 + readLevel bs x * 0x1_0000
+  unfolding word half
+  w-low = omega (arith, byte-of 0, byte-of 1, byte-of 2)
+
+  -- of levels below 128, those below the count fit
+  levels-fit : o .count < 0x80 → level bs x < 0x80 → readLevel bs x < 0x80
+      → below (raised (o .count) (word bs x)) ≡ (ltb (level bs x) (o .count) && ltb (readLevel bs x) (o .count))
+  levels-fit m l r = simp (w-low, below-is (kind bs x) (level bs x) (readLevel bs x) (o .count) (byte-of 0) l r m)
+
+  object-tests : objectWord (word bs x)
+      ≡ (eqb (kind bs x) 2 && eqb (level bs x / 0x80) 0 && eqb (readLevel bs x) 0 && eqb (driver bs x / 0x80) 0 && eqb (rest / 2) 0)
+  unfolding objectWord
+  object-tests =
+      let l : word bs x / 0x8000 % 2 ≡ level bs x / 0x80 = omega (arith, w-level) in
+      let d : word bs x / 0x8000_0000 % 2 ≡ driver bs x / 0x80 = omega (arith, w-driver) in
+      let m : word bs x / 0x200_0000_0000 ≡ rest / 2 = omega (arith, w-rest) in
+      simp (w-kind, l, w-read, d, m)
+
+  task-tests : taskWord (word bs x)
+      ≡ (eqb (kind bs x) 1 && eqb (level bs x / 0x80) 0 && eqb (readLevel bs x / 0x80) 0 && eqb (driver bs x + container bs x * 0x100) 0 && eqb (rest / 4) 0)
+  unfolding taskWord
+  task-tests =
+      let l : word bs x / 0x8000 % 2 ≡ level bs x / 0x80 = omega (arith, w-level) in
+      let r : word bs x / 0x80_0000 % 2 ≡ readLevel bs x / 0x80 = omega (arith, w-read) in
+      let d : word bs x / 0x100_0000 % 0x1_0000 ≡ driver bs x + container bs x * 0x100 = omega (arith, w-driver, w-container) in
+      let m : word bs x / 0x400_0000_0000 ≡ rest / 4 = omega (arith, w-rest) in
+      simp (w-kind, l, r, d, m)
+
+  -- a driver that is a task is one of the numbers
+  driver-below : (d : ℕ) → isTask bs d ≡ true → d < numbers
+  unfolding isTask
+  driver-below d t = lt-of-not-le (λ (l : numbers ≤ d). omega (arith, eqb-true, field-past bs d 0 long l))
+
+  -- ---- the record is sound where its levels fit and its number passes
+
+  not-free : (kind bs x ≡ 0 → ⊥) → eqb (word bs x) 0 ≡ false
+  not-free n = ne-eqb (word bs x) 0 (λ e. n (omega (arith, w-kind)))
+
+  not-task : (kind bs x ≡ 1 → ⊥) → taskWord (word bs x) ≡ false
+  not-task n = simp (task-tests, ne-eqb (kind bs x) 1 n)
+
+  not-object : (kind bs x ≡ 2 → ⊥) → objectWord (word bs x) ≡ false
+  not-object n = simp (object-tests, ne-eqb (kind bs x) 2 n)
+
+  module _ (some : 0 < o .count) (most : o .count < 0x80) where
+    passes : Bool
+    passes = below (raised (o .count) (word bs x)) && wordSound bs x
+
+    passes-free : (kind bs x ≡ 1 → ⊥) → (kind bs x ≡ 2 → ⊥) → passes ≡ freeRecord bs x
+    unfolding passes wordSound
+    passes-free t n =
+        simp (not-object n, not-task t, or-false, sym free-word)
+        (both-ways _ _ (λ h. and-r (below (raised (o .count) (word bs x))) (eqb (word bs x) 0) h) (λ h. and-i (zero-fits (eqb-true _ _ h)) h))
+      where
+        zero-fits : word bs x ≡ 0 → below (raised (o .count) (word bs x)) ≡ true
+        zero-fits e = simp (e, below-is 0 0 0 (o .count) (omega arith) (omega arith) (omega arith) most, lt-ltb 0 (o .count) some)
+
+    passes-task : kind bs x ≡ 1 → passes ≡ taskRecord o bs x
+    unfolding passes wordSound
+    passes-task e =
+        simp (not-object (omega arith), not-free (omega arith), task-tests, w-rest, task-is, task-marks)
+        (both-ways _ _
+        (λ h. let p = simp and-eq-true-iff at h in
+        let q = simp (levels-fit most (omega (arith, eqb-true)) (omega (arith, eqb-true)), and-eq-true-iff) at (p .0) in
+        simp and-eq-true-iff (omega (arith, eqb-true, ltb-true, eq-eqb, lt-ltb), (omega (arith, eqb-true, lt-ltb), p .1 .1)))
+        (λ h. let p = simp and-eq-true-iff at h in
+        simp (and-eq-true-iff, levels-fit most (omega (arith, ltb-true)) (omega (arith, ltb-true)))
+        (omega (arith, ltb-true, lt-ltb), (omega (arith, eqb-true, ltb-true, eq-eqb), p .1 .1))))
+
+    passes-object : kind bs x ≡ 2 → passes ≡ objectRecord o bs x
+    unfolding passes wordSound
+    passes-object e =
+        simp (not-task (omega arith), not-free (omega arith), cond-and, object-tests, w-container, object-is, object-marks)
+        (both-ways _ _
+        (λ h. let p = simp and-eq-true-iff at h in
+        let q = simp (levels-fit most (omega (arith, eqb-true)) (omega (arith, eqb-true)), and-eq-true-iff) at (p .0) in
+        let d : word bs x / 0x100_0000 % 0x80 ≡ driver bs x = omega (arith, eqb-true, w-driver) in
+        simp and-eq-true-iff (((omega (arith, eqb-true, ltb-true, eq-eqb, lt-ltb), rw d at (p .1 .1 .0)), p .1 .1 .1), omega (arith, eqb-true, lt-ltb)))
+        (λ h. let p = simp and-eq-true-iff at h in
+        let b = driver-below (driver bs x) (p .0 .0 .1) in
+        let d : word bs x / 0x100_0000 % 0x80 ≡ driver bs x = omega (arith, w-driver) in
+        simp (and-eq-true-iff, d, levels-fit most (omega (arith, ltb-true)) (omega (arith, eqb-true)))
+        (omega (arith, eqb-true, ltb-true, lt-ltb), (omega (arith, eqb-true, ltb-true, eq-eqb), (p .0 .0 .1, p .0 .1)))))
+
+    pub word-record : (below (raised (o .count) (word bs x)) && wordSound bs x) ≡ soundRecord o bs x
+    unfolding passes
+    word-record =
+        ⊎-elim
+        (λ t. let e = eqb-true (kind bs x) 1 t in passes-task e ∙ sym (sound-task o bs x e))
+        (λ t. ⊎-elim
+        (λ n. let e = eqb-true (kind bs x) 2 n in passes-object e ∙ sym (sound-object o bs x e))
+        (λ n. let f = eqb-false (kind bs x) 1 t in let g = eqb-false (kind bs x) 2 n in passes-free f g ∙ sym (sound-else o bs x f g))
+        (either (eqb (kind bs x) 2)))
+        (either (eqb (kind bs x) 1))
