@@ -1,16 +1,17 @@
 -- Laws of sets in two words.
 -- Assumes nothing.
-use mathlib.Core.Path.{_≡_, sym, ap, ap₂, _∙_}
+use mathlib.Core.Path.{_≡_, refl, sym, ap, ap₂, _∙_}
 use mathlib.Core.Logic.{_⊎_, inl, inr, ⊎-elim}
 use mathlib.Core.Bool.{Bool, true, false, not, cond, _&&_, _||_, and-eq-true-iff, true≢false}
 use Prim.Native.Nat.{ℕ, _+_, _-_, _^_, _≤_, _<_}
 use native.Mathlib.Nat.{zero-add}
 use native.Mathlib.Omega.{arith}
-use lib.Bits.{bitOr}
+use lib.Bits.{bitAnd, bitOr, and-lt, or-lt}
 use lib.Dec.{eqb, ltb}
+use lib.Pow.{ones-sub-lt}
 use borrow.Author.Tests.{eqb-true, eq-eqb, ltb-true, ltb-false, lt-ltb, le-ltb, not-true}
 use Rattle.bits.specs.Bit.{bit, wordOf}
-use Rattle.bits.specs.BitLaws.{bit-ext, bit-zero, bit-or, bit-word, word-is, word-lt}
+use Rattle.bits.specs.BitLaws.{bit-ext, bit-zero, bit-and, bit-or, bit-not, bit-word, word-is, word-lt}
 use Rattle.bits.specs.All.{anyB}
 use Rattle.bits.specs.AllLaws.{either, both-ways, not-so, and-i, any-i, any-ext, any-false}
 use Rattle.marking.specs.declared.sets.Set.{Set}
@@ -18,6 +19,10 @@ use Rattle.marking.specs.Sets.{has, setOf}
 
 abbrev pub pair : ℕ → ℕ → Set
 pair a b = record { low = a; high = b }
+
+-- the high word by its complement
+abbrev pub turned : ℕ → ℕ → Set
+turned a b = pair a ((2 ^ 64 - 1) - b)
 
 -- both are words
 pub record Fits (s : Set) : Type 0 where
@@ -83,9 +88,23 @@ module _ (op : Bool → Bool → Bool) (g : ℕ → ℕ → ℕ) (bit-g : (a b i
       let high = word-is (λ i. op (has a (64 + i)) (has b (64 + i))) _ (g-lt _ _ (fa .high) (fb .high)) (λ i l. bit-g _ _ i (fb .high) l ∙ ap₂ op (sym (has-high a i l)) (sym (has-high b i l))) in
       λ i. record { low = low i; high = high i }
 
-pub has-or : (a b c d x : ℕ) → has (pair (bitOr a c) (bitOr b d)) x ≡ (has (pair a b) x || has (pair c d) x)
+-- a word joined to another that is kept as its complement a
+join-not : (a w : ℕ) → a < 2 ^ 64 → w < 2 ^ 64 → (2 ^ 64 - 1) - bitAnd a ((2 ^ 64 - 1) - w) ≡ bitOr ((2 ^ 64 - 1) - a) w
+join-not a w h k =
+    let f : bitAnd a ((2 ^ 64 - 1) - w) < 2 ^ 64 = and-lt 64 a _ h (ones-sub-lt 64 w) in
+    bit-ext 64 _ _ (ones-sub-lt 64 _) (or-lt 64 _ _ (ones-sub-lt 64 a) k)
+    (λ i l. bit-not 64 _ i f l ∙ ap not (bit-and a _ i ∙ ap (λ (b : Bool). bit a i && b) (bit-not 64 w i k l)) ∙ both (bit a i) (bit w i)
+    ∙ sym (bit-or _ w i ∙ ap (λ (b : Bool). b || bit w i) (bit-not 64 a i h l)))
+  where
+    both : (p q : Bool) → not (p && not q) ≡ (not p || q)
+    both true true = refl
+    both true false = refl
+    both false q = refl
+
+pub has-join : (a b c d x : ℕ) → b < 2 ^ 64 → d < 2 ^ 64 → has (turned (bitOr a c) (bitAnd b ((2 ^ 64 - 1) - d))) x ≡ (has (turned a b) x || has (pair c d) x)
 unfolding has
-has-or a b c d x = ⊎-elim (λ e. rw e (bit-or a c x)) (λ e. rw e (bit-or b d (x - 64))) (either (ltb x 64))
+has-join a b c d x h k =
+    ⊎-elim (λ e. rw e (bit-or a c x)) (λ e. rw e (ap (λ (w : ℕ). bit w (x - 64)) (join-not b d h k) ∙ bit-or _ d (x - 64))) (either (ltb x 64))
 
 pub has-empty : (x : ℕ) → has (pair 0 0) x ≡ false
 unfolding has

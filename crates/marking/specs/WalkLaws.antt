@@ -18,7 +18,7 @@ use Rattle.bits.specs.AllLaws.{either, and-false, and-true, or-false, any-ext, 
 use Rattle.rows.specs.Rows.{cell}
 use Rattle.marking.specs.declared.sets.Set.{Set}
 use Rattle.marking.specs.Sets.{has, inWord, joined}
-use Rattle.marking.specs.SetLaws.{Fits, pair, has-empty, has-or}
+use Rattle.marking.specs.SetLaws.{Fits, pair, turned, has-empty, has-join}
 
 pub in-none : (n y : ℕ) → inWord 0 n y ≡ false
 unfolding inWord
@@ -117,12 +117,14 @@ module _ (ws : List ℕ) where
           rw (e, d, m)
 
   -- the row of the lowest one is joined, and then what is left of the word
-  pub joined-next : (a b w n t x : ℕ) → w < 2 ^ 64 → 0 < w → n ≤ 64 → t ≡ trailingZeros 64 w → x < 128
-      → (has (pair (bitOr a (getD ws (2 * (n + t)) 0)) (bitOr b (getD ws (2 * (n + t) + 1) 0))) x || joined ws (inWord (bitAnd w (w - 1)) n) x) ≡ (has (pair a b) x || joined ws (inWord w n) x)
+  pub joined-next : (a b w n t x : ℕ) → b < 2 ^ 64 → getD ws (2 * (n + t) + 1) 0 < 2 ^ 64 → w < 2 ^ 64 → 0 < w → n ≤ 64 → t ≡ trailingZeros 64 w → x < 128
+      → (has (turned (bitOr a (getD ws (2 * (n + t)) 0)) (bitAnd b ((2 ^ 64 - 1) - getD ws (2 * (n + t) + 1) 0))) x || joined ws (inWord (bitAnd w (w - 1)) n) x)
+      ≡ (has (turned a b) x || joined ws (inWord w n) x)
   unfolding joined
-  joined-next a b w n t x h p l e k =
-      ap (λ (q : Bool). q || joined ws (inWord (bitAnd w (w - 1)) n) x) (has-or a b _ _ x ∙ ap (λ (q : Bool). has (pair a b) x || q) (has-row (n + t) x k))
-      ∙ some-next (λ y. cell 2 ws y x) (has (pair a b) x) w n t h p l e
+  joined-next a b w n t x f g h p l e k =
+      ap (λ (q : Bool). q || joined ws (inWord (bitAnd w (w - 1)) n) x)
+      (has-join a b _ _ x f g ∙ ap (λ (q : Bool). has (turned a b) x || q) (has-row (n + t) x k))
+      ∙ some-next (λ y. cell 2 ws y x) (has (turned a b) x) w n t h p l e
 
   -- both words of a set
   pub joined-words : (s : Set) → Fits s → (x : ℕ) → ((has (pair 0 0) x || joined ws (inWord (s .low) 0) x) || joined ws (inWord (s .high) 64) x) ≡ joined ws (has s) x

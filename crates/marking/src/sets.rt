@@ -95,17 +95,18 @@ fn join_word(words: &[u64], word: u64, first: usize, onto: Set) -> Set
     ensures { λ r. ⌜ r ≡ setOf (λ x. has onto x || joined (now (words .entry)) (inWord word first) x) ⌝ }
 {
     let mut low = onto.low;
-    let mut high = onto.high;
+    // The high word is kept as its complement: two words joined alike go into one vector register, and each round of a long chain waits longer for that.
+    let mut missed = !onto.high;
     let mut rest = word;
     while rest != 0 {
         let row = 2 * (first + (bits::lowest_one(rest) as usize));
         low = low | words[row];
-        high = high | words[row + 1];
+        missed = missed & !words[row + 1];
         rest = rest & (rest - 1);
     }
     Set {
         low: low,
-        high: high,
+        high: !missed,
     }
 }
 
