@@ -7,15 +7,15 @@ use Rattle.events.proofs.delete.Tie as tie
 delete-requires-2 : tie.Need-delete-requires-2
 delete-requires-2 c κs =
     let pre = c .before .before .before .before .before .before .before .before .before .pre in
-    (pre .1, delete-fits _ _ (pre .0) _ _ _ _ (c .before .before .before .before .delete .ensures) (search))
+    (pre .1, delete-fits _ _ (pre .0) _ _ _ _ (c .before .before .before .before .delete .ensures) (c .before .before .if1 .taken))
 
 returns : tie.Need-returns
 returns c =
     let judged = c .before .before .before .before .before .before .before .before .before .delete .ensures in
-    done (delete-told _ _ _ _ _ _) judged (search) (c .before .before .before .before .delete2 .ensures)
+    done (delete-told _ _ _ _ _ _) judged (c .before .before .before .before .before .before .before .if1 .taken) (c .before .before .before .before .delete2 .ensures)
 
 returns-2 : tie.Need-returns-2
-returns-2 c = refused (delete-told _ _ _ _ _ _) (c .before .before .delete .ensures) (search)
+returns-2 c = refused (delete-told _ _ _ _ _ _) (c .before .before .delete .ensures) (c .if1 .left)
 
 pub delete-spec : {M : Type 1} → statement M
 delete-spec =

@@ -15,15 +15,15 @@ returns c = read-unnamed _ _ _ _ _ (sym (c .before .are-named .ensures) ∙ not-
 read-requires-2 : tie.Need-read-requires-2
 read-requires-2 c κs =
     let pre = c .before .before .before .before .before .before .before .before .pre in
-    read-fits _ _ (pre .0) _ _ _ (c .before .before .before .read .ensures []) (search)
+    read-fits _ _ (pre .0) _ _ _ (c .before .before .before .read .ensures []) (c .before .if2 .taken)
 
 returns-2 : tie.Need-returns-2
 returns-2 c =
     let judged = c .before .before .before .before .before .before .read .ensures in
-    done (read-told _ _ _ _ _) (judged _) (search) (c .before .before .read2 .ensures _)
+    done (read-told _ _ _ _ _) (judged _) (c .before .before .before .before .if2 .taken) (c .before .before .read2 .ensures _)
 
 returns-3 : tie.Need-returns-3
-returns-3 c = refused (read-told _ _ _ _ _) (c .before .before .read .ensures _) (search)
+returns-3 c = refused (read-told _ _ _ _ _) (c .before .before .read .ensures _) (c .if2 .left)
 
 pub read-spec : {M : Type 1} → statement M
 read-spec = tie.close (tie.spec (λ c κs. search needs) returns (λ c κs. search needs) read-requires-2 (λ c. search needs) returns-2 returns-3)

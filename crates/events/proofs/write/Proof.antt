@@ -15,15 +15,15 @@ returns c = write-unnamed _ _ _ _ _ (sym (c .before .are-named .ensures) ∙ not
 write-requires-2 : tie.Need-write-requires-2
 write-requires-2 c κs =
     let pre = c .before .before .before .before .before .before .before .before .pre in
-    write-fits _ _ (pre .0) _ _ _ (c .before .before .before .write .ensures []) (search)
+    write-fits _ _ (pre .0) _ _ _ (c .before .before .before .write .ensures []) (c .before .if2 .taken)
 
 returns-2 : tie.Need-returns-2
 returns-2 c =
     let judged = c .before .before .before .before .before .before .write .ensures in
-    done (write-told _ _ _ _ _) (judged _) (search) (c .before .before .write2 .ensures _)
+    done (write-told _ _ _ _ _) (judged _) (c .before .before .before .before .if2 .taken) (c .before .before .write2 .ensures _)
 
 returns-3 : tie.Need-returns-3
-returns-3 c = refused (write-told _ _ _ _ _) (c .before .before .write .ensures _) (search)
+returns-3 c = refused (write-told _ _ _ _ _) (c .before .before .write .ensures _) (c .if2 .left)
 
 pub write-spec : {M : Type 1} → statement M
 write-spec = tie.close (tie.spec (λ c κs. search needs) returns (λ c κs. search needs) write-requires-2 (λ c. search needs) returns-2 returns-3)
