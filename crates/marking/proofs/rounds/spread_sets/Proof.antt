@@ -42,8 +42,7 @@ table : (c : tie.After-owned2 Inv-loop μ-loop) → Table (memory (start c .args
 table c = owned-table _ (first (c .before .before .before .before .before)) (replicate 258 0) _ (cell-zeros 2 258) (c .before .own-rows .ensures)
 
 loop-holds : tie.Need-loop-holds Inv-loop μ-loop
-unfolding marked
-loop-holds c = spreading-first _ (search needs) (first (c .before .before .before .before .before))
+loop-holds c = let a = start c .args in spreading-first (memory (a .bytes .now) (a .words .now)) (start c .pre .3) (first (c .before .before .before .before .before))
 
 some : (c : tie.Else2 Inv-loop μ-loop) → anyB 128 (λ x. has (c .before .before .round .result) x) ≡ true
 some c = not-false _ (sym (c .before .is-empty2 .ensures) ∙ c .if2 .left)
