@@ -66,9 +66,13 @@ pub all-none : (p : ℕ → Bool) → allB 0 p ≡ true
 unfolding allB
 all-none p = refl
 
-pub all-more : (n : ℕ) (p : ℕ → Bool) → allB n p ≡ true → p n ≡ true → allB (n + 1) p ≡ true
+-- one more
+pub all-step : (n : ℕ) (p : ℕ → Bool) → allB (n + 1) p ≡ (allB n p && p n)
 unfolding allB
-all-more n p h e = ap (λ (k : ℕ). allB k p) (add-one n) ∙ and-i h e
+all-step n p = ap (λ (k : ℕ). allB k p) (add-one n)
+
+pub all-more : (n : ℕ) (p : ℕ → Bool) → allB n p ≡ true → p n ≡ true → allB (n + 1) p ≡ true
+all-more n p h e = all-step n p ∙ and-i h e
 
 pub all-at : (n : ℕ) (p : ℕ → Bool) → allB n p ≡ true → (i : ℕ) → i < n → p i ≡ true
 unfolding allB

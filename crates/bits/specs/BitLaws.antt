@@ -2,24 +2,31 @@
 -- Assumes nothing.
 use mathlib.Core.Path.{_≡_, refl, sym, ap, _∙_, subst}
 use mathlib.Core.Logic.{_⊎_, inl, inr, ⊎-elim}
-use mathlib.Core.Bool.{Bool, true, false, not, cond, _&&_, _||_, false≢true}
+use mathlib.Core.Bool.{Bool, true, false, not, cond, _&&_, _||_, false≢true, and-eq-true-iff}
 use Prim.Native.Nat.{ℕ, zero, suc, _+_, _-_, _*_, _/_, _%_, _^_, _≤_, _<_}
 use native.Mathlib.Nat.{le-of-suc-le-suc, not-suc-le-zero, zero-lt-suc, mod-lt, div-one, lt-of-not-le, mod-eq-of-lt, one-mul, eq-or-lt-of-le, le-refl}
 use native.Mathlib.Omega.{arith}
 use native.Mathlib.Numerals.{one-add}
 use lib.Arith.{lt-one}
-use lib.Bits.{bitAnd, bitOr, and-shr, or-shr, and-mod, or-mod, or-shifted-r, or-zero-r}
+use lib.Bits.{bitAnd, bitOr, and-shr, or-shr, and-mod, or-mod, and-le-l, and-le-r, or-add-and, or-shifted-r, or-zero-r}
 use lib.Count.{trailingZeros, under}
 use lib.Dec.{eqb, eqb·suc-suc, eqb·zero-suc, eqb·suc-zero}
 use lib.Pow.{shr-shr, pow-lt}
-use borrow.Author.Tests.{eq-eqb, ne-eqb}
+use borrow.Author.Tests.{eqb-true, eq-eqb, ne-eqb}
 use Rattle.bits.specs.Bit.{bit, wordOf}
 use Rattle.bits.specs.All.{upTo}
-use Rattle.bits.specs.AllLaws.{and-true, and-false, or-false}
+use Rattle.bits.specs.AllLaws.{and-true, and-false, or-false, both-ways}
 
 and-same : (a : Bool) → (a && a) ≡ (a && true)
 and-same true = refl
 and-same false = refl
+
+-- an `or` is 0 where both are
+pub or-zero : (a b : ℕ) → eqb (bitOr a b) 0 ≡ (eqb a 0 && eqb b 0)
+or-zero a b =
+    both-ways _ _
+    (λ h. simp and-eq-true-iff (omega (arith, eqb-true, eq-eqb, or-add-and a b, and-le-l a b, and-le-r a b)))
+    (λ h. let p = simp and-eq-true-iff at h in omega (arith, eqb-true, eq-eqb, or-add-and a b, and-le-l a b, and-le-r a b))
 
 -- a lowest digit is 0 or 1
 pub digit : (x : ℕ) → (x % 2 ≡ 0) ⊎ (x % 2 ≡ 1)

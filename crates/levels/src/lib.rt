@@ -1,7 +1,9 @@
 // The order of the levels, by value.
 ghost use mathlib.Core.Path.{_≡_};
-ghost use mathlib.Core.Bool.{true, false};
+ghost use mathlib.Core.Bool.{true, false, cond};
 ghost use Prim.Native.Nat.{_≤_, _<_};
+ghost use lib.Dec.{ltb};
+ghost use lib.ListN.{getD};
 ghost use Rattle.levels.specs.Order.{atOrBelow, orderPasses};
 ghost use Rattle.levels.specs.OrderRows.{RowsFit, closed, AllCovered, rowFits, levelPasses, LevelCovered, restEmpty, rowsPass};
 
@@ -65,18 +67,25 @@ fn level_passes(rows: &[u16; 16], count: u16, top: u16, a: u16) -> bool
     }
 }
 
+// Row a where it is past the count, else 0.
+fn row_past(rows: &[u16; 16], count: u16, a: u16) -> u16
+    requires { ⌜ a < 16 ⌝ }
+    ensures { λ r. ⌜ r ≡ cond (ltb a count) 0 (getD (now (rows .entry)) a 0) ⌝ }
+{
+    if a < count { 0 } else { rows[a as usize] }
+}
+
+// All rows past the count are empty: one test for them together.
 fn rest_empty(rows: &[u16; 16], count: u16) -> bool
-    requires { ⌜ count ≤ 16 ⌝ }
     ensures { λ r. ⌜ r ≡ restEmpty (now (rows .entry)) count ⌝ }
 {
-    let mut a = count;
-    while a < MOST_LEVELS {
-        if rows[a as usize] != 0 {
-            return false;
-        }
-        a += 1;
+    let mut any: u16 = 0;
+    let mut k: u16 = 0;
+    while k < MOST_LEVELS {
+        any = any | row_past(rows, count, k);
+        k += 1;
     }
-    true
+    any == 0
 }
 
 // Leaves at the first row that fails.

@@ -1,21 +1,21 @@
 -- The records in groups of eight, and the tests of a group.
 -- Assumes nothing.
-use mathlib.Core.Path.{_≡_, sym, ap, _∙_}
+use mathlib.Core.Path.{_≡_, sym, _∙_}
 use mathlib.Core.Logic.{⊎-elim}
 use mathlib.Core.Bool.{Bool, true, false, _&&_, _||_, true≢false, and-eq-true-iff}
 use mathlib.Core.List.{List}
 use Prim.Native.Nat.{ℕ, _+_, _-_, _*_, _/_, _%_, _^_, _≤_, _<_}
 use native.Mathlib.Nat.{not-le-of-lt}
-use native.Mathlib.Numerals.{add-one}
 use native.Mathlib.Omega.{arith}
-use lib.Bits.{bitOr, or-add-and, and-le-l, and-le-r, or-shr, or-mod}
+use lib.Bits.{bitOr, or-shr, or-mod}
 use lib.Dec.{eqb, ltb}
 use lib.ListN.{getD, length}
 use mir.Syntax.{w8}
 use mir.Val.{Fits}
-use borrow.Author.Tests.{eqb-true, eq-eqb, ltb-true, ltb-false}
+use borrow.Author.Tests.{ltb-true, ltb-false}
 use Rattle.bits.specs.All.{allB}
 use Rattle.bits.specs.AllLaws.{all-at, all-i, and-l, and-r, and-i, both-ways, either, not-so, or-l}
+use Rattle.bits.specs.BitLaws.{or-zero}
 use Rattle.levels.specs.declared.Order.{Order}
 use Rattle.records.specs.Records.{numbers, recordSize, freeRecord, taskRecord, objectRecord, soundRecord}
 use Rattle.records.specs.WordLaws.{word, wordSound, raised, below, free-word, word-record}
@@ -47,12 +47,6 @@ pub record UsedEnd (bs : List ℕ) (n : ℕ) : Type 0 where
 
 -- ---- a test of an `or` is the test of both
 
-pub or-zero : (a b : ℕ) → eqb (bitOr a b) 0 ≡ (eqb a 0 && eqb b 0)
-or-zero a b =
-    both-ways _ _
-    (λ h. simp and-eq-true-iff (omega (arith, eqb-true, eq-eqb, or-add-and a b, and-le-l a b, and-le-r a b)))
-    (λ h. let p = simp and-eq-true-iff at h in omega (arith, eqb-true, eq-eqb, or-add-and a b, and-le-l a b, and-le-r a b))
-
 or-digit : (a b k : ℕ) → eqb (bitOr a b / 2 ^ k % 2) 0 ≡ (eqb (a / 2 ^ k % 2) 0 && eqb (b / 2 ^ k % 2) 0)
 or-digit a b k = rw (or-shr a b k, or-mod (a / 2 ^ k) (b / 2 ^ k) 1) (or-zero (a / 2 ^ k % 2) (b / 2 ^ k % 2))
 
@@ -64,11 +58,6 @@ or-below a b =
     (λ h. let p = simp and-eq-true-iff at h in simp and-eq-true-iff ((p .0 .0, p .1 .0), (p .0 .1, p .1 .1))))
 
 -- ---- all numbers below n
-
--- one more
-pub all-step : (n : ℕ) (p : ℕ → Bool) → allB (n + 1) p ≡ (allB n p && p n)
-unfolding allB
-all-step n p = ap (λ (k : ℕ). allB k p) (add-one n)
 
 -- two tests that are one
 all-and : (n : ℕ) (p q r : ℕ → Bool) → ((k : ℕ) → (p k && q k) ≡ r k) → (allB n p && allB n q) ≡ allB n r

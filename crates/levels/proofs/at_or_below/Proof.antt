@@ -1,6 +1,7 @@
 use mathlib.Core.Path.{_≡_, sym}
-use mathlib.Core.Bool.{and-eq-true-iff}
+use mathlib.Core.Bool.{true, and-eq-true-iff}
 use Prim.Native.Nat.{ℕ}
+use lib.Dec.{ltb}
 use lib.ListN.{length, getD}
 use mir.Syntax.{w16}
 use mir.Val.{Fits}
@@ -20,7 +21,11 @@ shr-result c = ltb-true _ _ ((simp and-eq-true-iff at (c .before .if1 .taken)) .
 
 returns : tie.Need-returns
 unfolding atOrBelow bit
-returns c = let p = simp and-eq-true-iff at (c .before .if1 .taken) in rw (p .0 .0 .0, p .0 .0 .1)
+returns c =
+    let p = simp and-eq-true-iff at (c .before .if1 .taken) in
+    let n = c .before .before .args .t1 .count in
+    let within : ltb (c .before .before .args .a) n ≡ true = p .0 .0 .0 in
+    rw (within, p .0 .0 .1)
 
 returns-2 : tie.Need-returns-2
 returns-2 c =

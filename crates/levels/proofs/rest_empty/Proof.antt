@@ -1,50 +1,41 @@
-use mathlib.Core.Path.{_≡_, sym}
-use mathlib.Core.Bool.{true, _||_}
-use Prim.Native.Nat.{_-_, _≤_}
+-- Before turn k `any` is zero where the rows past the count and before k are.
+-- Assumes nothing.
+use mathlib.Core.Path.{_≡_, refl, sym, _∙_}
+use mathlib.Core.Bool.{Bool, true, false, cond, _||_}
+use Prim.Native.Nat.{ℕ, _-_, _≤_}
 use native.Mathlib.Omega.{arith}
 use lib.Dec.{ltb, eqb}
 use lib.ListN.{getD}
-use borrow.Author.Tests.{lt-ltb, le-ltb, eq-eqb, ne-eqb}
 use Rattle.bits.specs.All.{allB}
-use Rattle.bits.specs.AllLaws.{all-i, all-more, all-fails, or-l, or-r}
+use Rattle.bits.specs.AllLaws.{all-none, all-step}
+use Rattle.bits.specs.BitLaws.{or-zero}
 use Rattle.levels.specs.OrderRows.{restEmpty}
 use Rattle.levels.proofs.rest_empty.Statement.{statement}
 use Rattle.levels.proofs.rest_empty.Tie as tie
 
+cond-zero : (b : Bool) (n : ℕ) → eqb (cond b 0 n) 0 ≡ (b || eqb n 0)
+cond-zero true n = refl
+cond-zero false n = refl
+
 abbrev Inv-loop : tie.InvT-loop
-Inv-loop rows count a₀ a = (count ≤ a) × (a ≤ 16) × (allB a (λ k. ltb k count || eqb (getD rows k 0) 0) ≡ true)
+Inv-loop rows count any₀ k₀ any k = (k ≤ 16) × (eqb any 0 ≡ allB k (λ a. ltb a count || eqb (getD rows a 0) 0))
 
 abbrev μ-loop : tie.MeasureT-loop
-μ-loop rows count a₀ a = 16 - a
+μ-loop rows count any₀ k₀ any k = 16 - k
 
 loop-holds : tie.Need-loop-holds Inv-loop μ-loop
-loop-holds c = (omega arith, omega arith, all-i _ _ (λ k l. or-l (ltb k (c .args .count)) _ (lt-ltb _ _ l)))
-
-returns : tie.Need-returns Inv-loop μ-loop
-unfolding restEmpty
-returns c = let i = c .before .before .before .loop .inv in sym (all-fails 16 _ (c .before .before .before .loop .a) (omega arith) (rw (le-ltb _ _ (i .0), ne-eqb _ _ (c .if1 .taken))))
+loop-holds c = (omega arith, sym (all-none _))
 
 loop-again : tie.Need-loop-again Inv-loop μ-loop
 loop-again c =
-    let s = c .before .before .before in
-    (omega arith, omega arith, all-more _ _ (s .loop .inv .2) (or-r (ltb (s .loop .a) (s .before .args .count)) _ (eq-eqb _ _ (c .if1 .left))))
+    let l = c .before .before .loop in
+    (omega arith, or-zero (l .any) _ ∙ simp (l .inv .1, c .row-past .ensures, cond-zero, all-step))
 
-returns-2 : tie.Need-returns-2 Inv-loop μ-loop
+returns : tie.Need-returns Inv-loop μ-loop
 unfolding restEmpty
-returns-2 c = let e : c .before .loop .a ≡ 16 = omega arith in sym (rw e at (c .before .loop .inv .2))
+returns c = let e : c .before .loop .k ≡ 16 = omega arith in rw e at (c .before .loop .inv .1)
 
 pub rest-empty-spec : {M : Type 1} → statement M
 rest-empty-spec =
     tie.close
-    (tie.spec
-    Inv-loop
-    μ-loop
-    loop-holds
-    (λ c. omega arith)
-    (λ c. omega arith)
-    (λ c. omega arith)
-    returns
-    (λ c. omega arith)
-    (λ c. omega arith)
-    loop-again
-    returns-2)
+    (tie.spec Inv-loop μ-loop loop-holds (λ c κs. omega arith) (λ c. omega arith) (λ c. omega arith) loop-again returns)

@@ -6,9 +6,10 @@ use native.Mathlib.Omega.{arith}
 use lib.Dec.{eqb}
 use borrow.Author.Needs.{needs}
 use Rattle.bits.specs.All.{allB}
-use Rattle.bits.specs.AllLaws.{all-none}
+use Rattle.bits.specs.AllLaws.{all-none, all-step}
+use Rattle.bits.specs.BitLaws.{or-zero}
 use Rattle.records.specs.WordLaws.{word}
-use Rattle.records.specs.GroupLaws.{groupSize, groupFree, or-zero, all-step}
+use Rattle.records.specs.GroupLaws.{groupSize, groupFree}
 use Rattle.records.proofs.group_free.Statement.{statement}
 use Rattle.records.proofs.group_free.Tie as tie
 

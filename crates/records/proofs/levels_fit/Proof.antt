@@ -5,9 +5,9 @@ use Prim.Native.Nat.{_≤_, _-_, _+_, _*_}
 use native.Mathlib.Omega.{arith}
 use borrow.Author.Needs.{needs}
 use Rattle.bits.specs.All.{allB}
-use Rattle.bits.specs.AllLaws.{all-none}
+use Rattle.bits.specs.AllLaws.{all-none, all-step}
 use Rattle.records.specs.WordLaws.{word, raised, below}
-use Rattle.records.specs.GroupLaws.{groupSize, levelsFit, or-below, all-step}
+use Rattle.records.specs.GroupLaws.{groupSize, levelsFit, or-below}
 use Rattle.records.proofs.levels_fit.Statement.{statement}
 use Rattle.records.proofs.levels_fit.Tie as tie
 
