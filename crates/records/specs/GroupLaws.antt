@@ -27,11 +27,15 @@ groupSize = 8
 unfoldable pub groupFree : List ℕ → ℕ → Bool
 groupFree bs x = allB groupSize (λ k. eqb (word bs (x + k)) 0)
 
--- their levels are below the count, where they are below 128
+-- those of the four groups from x on are
+unfoldable pub groupsFree : List ℕ → ℕ → Bool
+groupsFree bs x = groupFree bs x && groupFree bs (x + groupSize) && groupFree bs (x + 2 * groupSize) && groupFree bs (x + 3 * groupSize)
+
+-- the levels of the group are below the count, where they are below 128
 unfoldable pub levelsFit : ℕ → List ℕ → ℕ → Bool
 levelsFit count bs x = allB groupSize (λ k. below (raised count (word bs (x + k))))
 
--- they are sound
+-- its records are sound
 unfoldable pub groupSound : Order → List ℕ → ℕ → Bool
 groupSound o bs x = allB groupSize (λ k. soundRecord o bs (x + k))
 
@@ -39,11 +43,12 @@ groupSound o bs x = allB groupSize (λ k. soundRecord o bs (x + k))
 abbrev pub allSound : Order → List ℕ → ℕ → Bool
 allSound o bs n = allB n (λ x. soundRecord o bs x)
 
--- the first n records are whole groups, and the others are free
-pub record UsedEnd (bs : List ℕ) (n : ℕ) : Type 0 where
+-- the groups end at n, and the records from `from` up to there are free
+pub record FreeUntil (bs : List ℕ) (from n : ℕ) : Type 0 where
+  pub further : from ≤ n
   pub in-range : n ≤ numbers
   pub whole : n % groupSize ≡ 0
-  pub free-rest : (x : ℕ) → n ≤ x → x < numbers → eqb (word bs x) 0 ≡ true
+  pub free : (x : ℕ) → from ≤ x → x < n → eqb (word bs x) 0 ≡ true
 
 -- ---- a test of an `or` is the test of both
 
@@ -98,28 +103,43 @@ module _ (o : Order) (bs : List ℕ) (long : length bs ≡ recordSize * numbers)
   unfolding levelsFit groupSound
   group-is x some most = all-and groupSize _ _ _ (λ k. word-record o bs (x + k) long byte some most)
 
-  -- the records in use are all that there is to test
-  pub used-sound : (n : ℕ) → UsedEnd bs n → allSound o bs n ≡ true → allSound o bs numbers ≡ true
-  used-sound n u h = all-i numbers (λ y. soundRecord o bs y) (λ y l. ⊎-elim
-      (λ t. all-at n (λ y. soundRecord o bs y) h y (ltb-true y n t))
-      (λ f. free-sound y (u .free-rest y (ltb-false y n f) l))
-      (either (ltb y n)))
+  -- and so are free records after sound ones
+  pub free-after : (x n : ℕ) → allSound o bs x ≡ true → FreeUntil bs x n → allSound o bs n ≡ true
+  free-after x n h u = all-i n (λ y. soundRecord o bs y) (λ y l. ⊎-elim
+      (λ t. all-at x (λ y. soundRecord o bs y) h y (ltb-true y x t))
+      (λ f. free-sound y (u .free y (ltb-false y x f) l))
+      (either (ltb y x)))
 
--- ---- free groups at the end
+-- ---- free groups
 
-pub all-used : (bs : List ℕ) → UsedEnd bs numbers
-all-used bs = record { in-range = omega arith; whole = omega arith; free-rest = λ x l m. absurd (not-le-of-lt m l) }
-
-pub fewer-used : (bs : List ℕ) (n : ℕ) → UsedEnd bs n → groupSize ≤ n → groupFree bs (n - groupSize) ≡ true → UsedEnd bs (n - groupSize)
+in-group : (bs : List ℕ) (x y : ℕ) → groupFree bs x ≡ true → x ≤ y → y < x + groupSize → eqb (word bs y) 0 ≡ true
 unfolding groupFree
-fewer-used bs n u m h =
+in-group bs x y h l m =
+    let e : x + (y - x) ≡ y = omega arith in
+    rw e at (all-at groupSize (λ k. eqb (word bs (x + k)) 0) h (y - x) (omega arith))
+
+pub free-none : (bs : List ℕ) (from : ℕ) → from ≤ numbers → from % groupSize ≡ 0 → FreeUntil bs from from
+free-none bs from l w = record { further = omega arith; in-range = l; whole = w; free = λ x a b. absurd (not-le-of-lt b a) }
+
+pub free-more : (bs : List ℕ) (from n : ℕ) → FreeUntil bs from n → n + 32 ≤ numbers → groupsFree bs n ≡ true → FreeUntil bs from (n + 32)
+unfolding groupsFree
+free-more bs from n u m h =
+    let g = simp and-eq-true-iff at h in
     record {
-      in-range = omega (arith, u .in-range);
+      further = omega (arith, u .further);
+      in-range = m;
       whole = omega (arith, u .whole);
-      free-rest = λ x l b. ⊎-elim
-          (λ t. let c = ltb-true x n t in
-          let e : (n - groupSize) + (x - (n - groupSize)) ≡ x = omega arith in
-          rw e at (all-at groupSize (λ k. eqb (word bs ((n - groupSize) + k)) 0) h (x - (n - groupSize)) (omega arith)))
-          (λ f. u .free-rest x (ltb-false x n f) b)
+      free = λ x l b. ⊎-elim
+          (λ t. u .free x l (ltb-true x n t))
+          (λ f. let c = ltb-false x n f in ⊎-elim
+          (λ t. in-group bs n x (g .0 .0 .0) c (ltb-true x (n + 8) t))
+          (λ f. let c = ltb-false x (n + 8) f in ⊎-elim
+          (λ t. in-group bs (n + 8) x (g .0 .0 .1) c (omega (arith, ltb-true x (n + 16) t)))
+          (λ f. let c = ltb-false x (n + 16) f in ⊎-elim
+          (λ t. in-group bs (n + 16) x (g .0 .1) c (omega (arith, ltb-true x (n + 24) t)))
+          (λ f. in-group bs (n + 24) x (g .1) (ltb-false x (n + 24) f) (omega arith))
+          (either (ltb x (n + 24))))
+          (either (ltb x (n + 16))))
+          (either (ltb x (n + 8))))
           (either (ltb x n));
     }

@@ -1,6 +1,6 @@
 // The records of the numbers, and the test that the bytes are sound.
 ghost use mathlib.Core.Path.{_≡_};
-ghost use Prim.Native.Nat.{_+_, _*_, _≤_, _<_};
+ghost use Prim.Native.Nat.{_+_, _*_, _%_, _≤_, _<_};
 ghost use lib.ListN.{length, replicate};
 ghost use Rattle.records.specs.Records.{
   numbers,
@@ -16,7 +16,7 @@ ghost use Rattle.records.specs.Records.{
   sound,
 };
 ghost use Rattle.records.specs.WordLaws.{joined, half, word, objectWord, taskWord, containerFits, wordSound};
-ghost use Rattle.records.specs.GroupLaws.{groupSize, groupFree, levelsFit, groupSound, UsedEnd, allSound};
+ghost use Rattle.records.specs.GroupLaws.{groupSize, groupFree, groupsFree, levelsFit, groupSound, allSound, FreeUntil};
 use levels::Order;
 
 // How many numbers there are, and the bytes of a record and of them all.
@@ -26,6 +26,8 @@ const RECORD_SIZE: usize = 8;
 
 // The records are tested in groups, so that a run of free ones costs few tests.
 const GROUP_SIZE: usize = 8;
+
+const FOUR_GROUPS: usize = 32;
 
 // An order of fewer levels than this is tested by sums.
 const SUMMED: u16 = 128;
@@ -257,9 +259,6 @@ fn group_sound(bytes: &[u8], order: Order, x: usize) -> bool
     requires { ⌜ (length (now bytes) ≡ recordSize * numbers) × (x + groupSize ≤ numbers) × (0 < order .count) × (order .count < 128) ⌝ }
     ensures { λ r. ⌜ r ≡ groupSound order (now (bytes .entry)) x ⌝ }
 {
-    if group_free(bytes, x) {
-        return true;
-    }
     if !levels_fit(bytes, x, order.count as usize) {
         return false;
     }
@@ -273,19 +272,30 @@ fn group_sound(bytes: &[u8], order: Order, x: usize) -> bool
     true
 }
 
-// A number from which on the records are free, so that few records in use cost few tests. Those before it are whole groups.
-fn used_end(bytes: &[u8]) -> usize
-    requires { ⌜ length (now bytes) ≡ recordSize * numbers ⌝ }
-    ensures { λ r. ⌜ UsedEnd (now (bytes .entry)) r ⌝ }
+// The four groups from x on are free: one test for 32 records.
+fn groups_free(bytes: &[u8], x: usize) -> bool
+    requires { ⌜ (length (now bytes) ≡ recordSize * numbers) × (x + 32 ≤ numbers) ⌝ }
+    ensures { λ r. ⌜ r ≡ groupsFree (now (bytes .entry)) x ⌝ }
 {
-    let mut end: usize = NUMBERS;
-    while end > GROUP_SIZE {
-        if !group_free(bytes, end - GROUP_SIZE) {
-            return end;
+    group_free(bytes, x)
+        & group_free(bytes, x + GROUP_SIZE)
+        & group_free(bytes, x + 2 * GROUP_SIZE)
+        & group_free(bytes, x + 3 * GROUP_SIZE)
+}
+
+// A number up to which the records are free, so that few records in use cost few tests.
+fn free_until(bytes: &[u8], from: usize) -> usize
+    requires { ⌜ (length (now bytes) ≡ recordSize * numbers) × (from ≤ numbers) × (from % groupSize ≡ 0) ⌝ }
+    ensures { λ r. ⌜ FreeUntil (now (bytes .entry)) from r ⌝ }
+{
+    let mut x = from;
+    while x + FOUR_GROUPS <= NUMBERS {
+        if !groups_free(bytes, x) {
+            return x;
         }
-        end = end - GROUP_SIZE;
+        x += FOUR_GROUPS;
     }
-    end
+    x
 }
 
 // ---- the same without sums, for an order of no level or of more than the sums can test
@@ -344,9 +354,12 @@ pub fn sound(bytes: &[u8], order: Order) -> bool
     if !((order.count > 0) & (order.count < SUMMED)) {
         return plain_records(bytes, order);
     }
-    let end = used_end(bytes);
     let mut x: usize = 0;
-    while x < end {
+    while x < NUMBERS {
+        if group_free(bytes, x) {
+            x = free_until(bytes, x + GROUP_SIZE);
+            continue;
+        }
         if !group_sound(bytes, order, x) {
             return false;
         }
