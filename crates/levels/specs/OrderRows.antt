@@ -33,6 +33,12 @@ Covered rows w b = (within rows w b ≡ true) ⊎ ((c : ℕ) × (bit w c ≡ tru
 abbrev pub AllCovered : List ℕ → ℕ → Type 0
 AllCovered rows w = (b : ℕ) → bit w b ≡ true → Covered rows w b
 
+-- in such a walk, those left are of w, and those of w that are not left are covered
+pub record Passed (rows : List ℕ) (w left : ℕ) : Type 0 where
+  pub fits : left < 2 ^ 16
+  pub of-w : (c : ℕ) → bit left c ≡ true → bit w c ≡ true
+  pub done : (c : ℕ) → bit w c ≡ true → (bit left c ≡ true) ⊎ Covered rows w c
+
 -- row a without a itself: what is strictly above a
 unfoldable pub above : List ℕ → ℕ → ℕ
 above rows a = bitAnd (getD rows a 0) ((2 ^ 16 - 1) - 2 ^ a)

@@ -20,7 +20,7 @@ use Rattle.bits.specs.AllLaws.{and-i, and-l, and-r, and-false, either, both-way
 use Rattle.levels.specs.declared.Order.{Order}
 use Rattle.levels.specs.Order.{mostLevels, related, inOrder, atOrBelow, countFits, reflexive, transitive, antisymmetric, belowTop, clearOutside, orderPasses}
 use Rattle.levels.specs.OrderLaws.{IsOrder, is-order, both-in, at-i, at-related}
-use Rattle.levels.specs.OrderRows.{RowsFit, within, closed, Covered, AllCovered, above, rowFits, levelPasses, LevelCovered, restEmpty, rowsPass}
+use Rattle.levels.specs.OrderRows.{RowsFit, within, closed, Covered, AllCovered, Passed, above, rowFits, levelPasses, LevelCovered, restEmpty, rowsPass}
 
 -- ---- bits
 
@@ -90,15 +90,10 @@ above-less rows a c l p e =
     let other : above rows c ≡ w → ⊥ = λ q. true≢false (sym p ∙ ap (λ (x : ℕ). bit x c) (sym q) ∙ not-in) in
     omega (arith, other, above-le rows c, or-add-and row w, and-le-r row w, eqb-true _ w e)
 
--- ---- the loop over the levels of w: those left are of w, and those of w that are not left are covered
+-- ---- the walk over the levels of w
 
-pub record Passed (rows : List ℕ) (w left : ℕ) : Type 0 where
-  pub fits : left < 2 ^ 16
-  pub of-w : (c : ℕ) → bit left c ≡ true → bit w c ≡ true
-  pub done : (c : ℕ) → bit w c ≡ true → (bit left c ≡ true) ⊎ Covered rows w c
-
-pub rest-less : (left x : ℕ) → 0 < left → bitAnd (bitAnd left (left - 1)) x < left
-rest-less left x some = omega (arith, and-le-l (bitAnd left (left - 1)) x, and-le-r left (left - 1))
+pub rest-less : (left : ℕ) → 0 < left → bitAnd left (left - 1) < left
+rest-less left some = omega (arith, and-le-r left (left - 1))
 
 module _ (rows : List ℕ) (w : ℕ) where
   pub passed-none : w < 2 ^ 16 → Passed rows w w
@@ -107,32 +102,45 @@ module _ (rows : List ℕ) (w : ℕ) where
   pub passed-all : Passed rows w 0 → AllCovered rows w
   passed-all s c p = ⊎-elim (λ q. absurd (true≢false (sym q ∙ bit-zero c))) (λ q. q) (s .done c p)
 
-  module _ (left : ℕ) (some : 0 < left) (s : Passed rows w left) where
-    pub passed-fails : within rows w (trailingZeros 16 left) ≡ false → closed rows w ≡ false
-    unfolding closed
-    passed-fails e = all-fails mostLevels _ (trailingZeros 16 left) (trailing-lt 16 left (s .fits) some) (rw (s .of-w _ (trailing-set 16 left (s .fits) some), e))
-
-    pub passed-more : getD rows (trailingZeros 16 left) 0 < 2 ^ 16 → within rows w (trailingZeros 16 left) ≡ true
-        → Passed rows w (bitAnd (bitAnd left (left - 1)) ((2 ^ 16 - 1) - getD rows (trailingZeros 16 left) 0))
+  module _ (left : ℕ) (s : Passed rows w left) where
+    -- the levels in the row of b, which is within w, are covered
+    pub passed-over : (b : ℕ) → bit w b ≡ true → getD rows b 0 < 2 ^ 16 → within rows w b ≡ true → Passed rows w (bitAnd left ((2 ^ 16 - 1) - getD rows b 0))
     unfolding Covered
-    passed-more h e =
+    passed-over b p h e =
         record {
-          fits = omega (arith, rest-less left ((2 ^ 16 - 1) - row) some, s .fits);
-          of-w = λ c p. s .of-w c (and-l (bit left c) _ (sym (bit-rest 16 left c (s .fits) some) ∙ and-l (bit (bitAnd left (left - 1)) c) _ (sym (bit-and _ _ c) ∙ p)));
-          done = λ c p. ⊎-elim (λ q. go c q (either (eqb c b)) (either (bit row c))) inr (s .done c p);
+          fits = omega (arith, and-le-l left ((2 ^ 16 - 1) - row), s .fits);
+          of-w = λ c q. s .of-w c (and-l (bit left c) _ (sym (bit-and left ((2 ^ 16 - 1) - row) c) ∙ q));
+          done = λ c q. ⊎-elim (λ r. go c r (either (bit row c))) inr (s .done c q);
         }
       where
-        b : ℕ
-        b = trailingZeros 16 left
-
         row : ℕ
         row = getD rows b 0
 
-        go : (c : ℕ) → bit left c ≡ true → (eqb c b ≡ true) ⊎ (eqb c b ≡ false) → (bit row c ≡ true) ⊎ (bit row c ≡ false)
-            → (bit (bitAnd (bitAnd left (left - 1)) ((2 ^ 16 - 1) - row)) c ≡ true) ⊎ Covered rows w c
-        go c q (inl t) u = inr (inl (ap (within rows w) (eqb-true c b t) ∙ e))
-        go c q (inr t) (inl u) = inr (inr (b, s .of-w b (trailing-set 16 left (s .fits) some), e, u))
-        go c q (inr t) (inr u) = inl (bit-and (bitAnd left (left - 1)) ((2 ^ 16 - 1) - row) c ∙ rw (bit-rest 16 left c (s .fits) some, q, t, bit-not 16 row c h (bit-below 16 left c (s .fits) q), u))
+        go : (c : ℕ) → bit left c ≡ true → (bit row c ≡ true) ⊎ (bit row c ≡ false) → (bit (bitAnd left ((2 ^ 16 - 1) - row)) c ≡ true) ⊎ Covered rows w c
+        go c q (inl u) = inr (inr (b, p, e, u))
+        go c q (inr u) = inl (bit-and left ((2 ^ 16 - 1) - row) c ∙ rw (q, bit-not 16 row c h (bit-below 16 left c (s .fits) q), u))
+
+    module _ (some : 0 < left) where
+      pub lowest-in : bit w (trailingZeros 16 left) ≡ true
+      lowest-in = s .of-w _ (trailing-set 16 left (s .fits) some)
+
+      pub passed-fails : within rows w (trailingZeros 16 left) ≡ false → closed rows w ≡ false
+      unfolding closed
+      passed-fails e = all-fails mostLevels _ (trailingZeros 16 left) (trailing-lt 16 left (s .fits) some) (rw (lowest-in, e))
+
+      pub passed-more : within rows w (trailingZeros 16 left) ≡ true → Passed rows w (bitAnd left (left - 1))
+      unfolding Covered
+      passed-more e =
+          record {
+            fits = omega (arith, rest-less left some, s .fits);
+            of-w = λ c p. s .of-w c (and-l (bit left c) _ (sym (bit-rest 16 left c (s .fits) some) ∙ p));
+            done = λ c p. ⊎-elim (λ q. go c q (either (eqb c (trailingZeros 16 left)))) inr (s .done c p);
+          }
+        where
+          go : (c : ℕ) → bit left c ≡ true → (eqb c (trailingZeros 16 left) ≡ true) ⊎ (eqb c (trailingZeros 16 left) ≡ false)
+              → (bit (bitAnd left (left - 1)) c ≡ true) ⊎ Covered rows w c
+          go c q (inl t) = inr (inl (ap (within rows w) (eqb-true c _ t) ∙ e))
+          go c q (inr t) = inl (rw (bit-rest 16 left c (s .fits) some, q, t))
 
 -- ---- where all levels are covered, what is above each is closed
 

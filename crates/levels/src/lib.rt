@@ -5,7 +5,7 @@ ghost use Prim.Native.Nat.{_≤_, _<_};
 ghost use lib.Dec.{ltb};
 ghost use lib.ListN.{getD};
 ghost use Rattle.levels.specs.Order.{atOrBelow, orderPasses};
-ghost use Rattle.levels.specs.OrderRows.{RowsFit, closed, AllCovered, rowFits, levelPasses, LevelCovered, restEmpty, rowsPass};
+ghost use Rattle.levels.specs.OrderRows.{RowsFit, closed, AllCovered, Passed, rowFits, levelPasses, LevelCovered, restEmpty, rowsPass};
 
 #[repr(C)]
 pub struct Order {
@@ -28,22 +28,37 @@ pub fn at_or_below(order: Order, a: u16, b: u16) -> bool
     }
 }
 
-// Each level of `set` has its row within `set`, or is passed over: it is in a row found within `set`.
-// The level of that row has its own test, which shows what is passed over here, so all levels together miss nothing.
+// Each level left has its row within `set`. The others of the set are covered.
+fn rest_closed(rows: &[u16; 16], set: u16, rest: u16) -> bool
+    requires { ⌜ Passed (now rows) set rest ⌝ }
+    ensures { λ r. ⌜ (r ≡ true → AllCovered (now (rows .entry)) set) × (r ≡ false → closed (now (rows .entry)) set ≡ false) ⌝ }
+{
+    let mut left = rest;
+    while left != 0 {
+        let b = u16::trailing_zeros(left) as usize;
+        if rows[b] | set != set {
+            return false;
+        }
+        left = left & (left - 1);
+    }
+    true
+}
+
+// Each level of `set` has its row within `set`, where those in the row of the lowest are passed over: they have their own
+// test, which shows what is passed over here, so all levels together miss nothing.
 fn is_closed(rows: &[u16; 16], set: u16) -> bool
     requires { ⌜ RowsFit (now rows) ⌝ }
     ensures { λ r. ⌜ (r ≡ true → AllCovered (now (rows .entry)) set) × (r ≡ false → closed (now (rows .entry)) set ≡ false) ⌝ }
 {
-    let mut left = set;
-    while left != 0 {
-        let b = u16::trailing_zeros(left) as usize;
-        let row = rows[b];
-        if row | set != set {
-            return false;
-        }
-        left = left & (left - 1) & !row;
+    if set == 0 {
+        return true;
     }
-    true
+    let b = u16::trailing_zeros(set) as usize;
+    let row = rows[b];
+    if row | set != set {
+        return false;
+    }
+    rest_closed(rows, set, set & (set - 1) & !row)
 }
 
 // Row `row` of level a has no bit at or past the count, and has those of a and of the top.
