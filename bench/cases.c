@@ -90,6 +90,16 @@ static void build_start(struct item *item, const struct plan *plan)
     request(item, TUPEHIWO_CODE_START, 0, 0, 0, 0, 0);
 }
 
+/* The same line with the top as level 0: an order's test may hang on how levels are numbered. */
+static void build_start_down(struct item *item, const struct plan *plan)
+{
+    struct tupehiwo_order down = {{0}, (uint16_t)plan->levels, 0};
+    for (unsigned i = 0; i < plan->levels; i++)
+        down.rows[i] = (uint16_t)((2u << i) - 1);
+    build_start(item, plan);
+    item->world.m.order = down;
+}
+
 /* ------------------------------------------------------------------ marks */
 
 enum { OBJECTS_OF_ONE = 60 };
@@ -201,6 +211,7 @@ const struct bench_case cases[] = {
     {"refusal_with_4", build_unfit, FIRST_THINGS, 1},
     {"refusal_with_2_at_the_last_record", build_unsound, FIRST_THINGS, 1},
     {"start", build_start, TUPEHIWO_THINGS, 1},
+    {"start_with_the_top_as_level_0", build_start_down, TUPEHIWO_THINGS, 1},
     {"mark_of_a_driver_of_60_objects", build_mark, FIRST_THINGS + OBJECTS_OF_ONE + 1, 1},
     {"step", build_step, FIRST_THINGS, 0},
     {"report", build_report, FIRST_THINGS, 1},
@@ -212,7 +223,7 @@ const struct bench_case cases[] = {
 };
 
 const unsigned case_count = sizeof cases / sizeof cases[0];
-const struct bench_case *const case_write = &cases[1], *const case_chain = &cases[10];
+const struct bench_case *const case_write = &cases[1], *const case_chain = &cases[11];
 
 void build_item(struct item *item, const struct bench_case *subject, const struct plan *plan,
                 uint64_t seed)

@@ -14,6 +14,7 @@ use levels::Order;
 use model::NUMBER;
 use model::SLIPPED;
 
+// A read and a write refuse wrong numbers first: what they look up after that needs no test of its range.
 pub fn read(
     bytes: &[u8],
     words: &mut [u64],
