@@ -14,7 +14,7 @@ use Rattle.records.specs.Records.{numbers}
 use Rattle.model.specs.Verdicts.{granted, slipped, row-number, row-driver, row-place, row-held, row-rule, row-filled}
 use Rattle.model.specs.State.{Memory, task, object, levelOf, readLevelOf, driverOf, containerOf, marked, hasWrite}
 use Rattle.model.specs.Effects.{Effect, flow-if, read-access, write-access, move-to, clear, effect, effects}
-use Rattle.model.specs.Events.{left, unless, firstFailing, verdictOf, outcome, read, write, move, delete}
+use Rattle.model.specs.Events.{Event, left, unless, firstFailing, verdictOf, outcome, read, write, move, delete}
 use Rattle.decisions.specs.declared.Decision.{Decision}
 use Rattle.decisions.specs.Decisions.{apart, readDecision, writeDecision, moveDecision, deleteDecision}
 use Rattle.decisions.specs.Facts.{writes, bothWrite}
@@ -46,6 +46,12 @@ filled-last true true true true true false e = refl
 filled-last true true true true false true e = refl
 filled-last true true true true false false e = refl
 
+-- an event on wrong numbers is refused with their row
+pub unnamed : (m : Memory) (e : Event) (named : Bool) (d x rest : ℕ) → verdictOf e ≡ driven (m .bytes) named d x rest → named ≡ false
+    → left row-number 0 (m .bytes) (m .words) ≡ outcome m e
+unfolding driven unless
+unnamed m e named d x rest is n = turned-away m e (sym (is ∙ rw n)) (omega arith)
+
 module _ (o : Order) (m : Memory) where
   infix 40 _⊑_
   abbrev _⊑_ : ℕ → ℕ → Bool
@@ -67,10 +73,6 @@ module _ (o : Order) (m : Memory) where
         ap (driven (m .bytes) (task m e && task m d && object m x) d x)
         (apart-joins (L e ⊑ L d || R e ⊑ L d) (honest || marked m d) true (L x ⊑ L d) honest)
 
-    pub read-unnamed : (task m e && task m d && object m x) ≡ false → left row-number 0 (m .bytes) (m .words) ≡ outcome m (read o m e d x)
-    unfolding driven unless
-    read-unnamed n = turned-away m _ (sym (read-verdict ∙ rw n)) (omega arith)
-
     pub read-told : Told m (read o m e d x) (readJudged o m e d x) (λ j. read-access e x ∷ flow-if (j .first) x e ∷ flow-if (j .second) d e ∷ [])
     unfolding read readDecided readDecision effects
     read-told =
@@ -88,10 +90,6 @@ module _ (o : Order) (m : Memory) where
         let honest = L x ⊑ L e in
         ap (driven (m .bytes) (task m e && task m d && object m x) d x)
         (apart-joins true (honest || marked m d) true (L x ⊑ L d) honest)
-
-    pub write-unnamed : (task m e && task m d && object m x) ≡ false → left row-number 0 (m .bytes) (m .words) ≡ outcome m (write o m e d x)
-    unfolding driven unless
-    write-unnamed n = turned-away m _ (sym (write-verdict ∙ rw n)) (omega arith)
 
     pub write-told : Told m (write o m e d x) (writeJudged o m e d x) (λ j. write-access e x ∷ flow-if (j .first) e x ∷ flow-if (j .second) e d ∷ [])
     unfolding write writeDecided writeDecision effects effect

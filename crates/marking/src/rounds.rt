@@ -48,7 +48,7 @@ fn own_rows(bytes: &[u8], owned: &mut [u64], set: Set)
 }
 
 // What a round marks of the unmarked things in use: those that a source has a flow to, and then the objects of the sources and of these.
-pub fn round(words: &[u64], owned: &[u64], unmarked: Set, sources: Set) -> Set
+fn round(words: &[u64], owned: &[u64], unmarked: Set, sources: Set) -> Set
     requires { ⌜ (256 ≤ length (now words)) × (length (now owned) ≡ 258) ⌝ }
     ensures { λ r. ⌜ r ≡ roundSet (now (words .entry)) (now (owned .entry)) unmarked sources ⌝ }
 {

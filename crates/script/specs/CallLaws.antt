@@ -3,11 +3,11 @@
 use mathlib.Core.Path.{_≡_, refl, sym, ap, _∙_}
 use mathlib.Core.Bool.{Bool, true, false, not}
 use mathlib.Core.List.{List, [], _∷_}
-use Prim.Native.Nat.{ℕ, zero, suc, _+_, _≤_, _<_}
+use Prim.Native.Nat.{ℕ, zero, suc, _+_, _≤_, _<_, min}
 use native.Mathlib.Omega.{arith}
 use lib.Dec.{eqb}
-use lib.ListN.{length, getD, take, drop}
-use lib.Seq.{drop-cons, length-take-le}
+use lib.ListN.{length, getD, take, drop, length-take}
+use lib.Seq.{drop-cons}
 use borrow.Author.Tests.{ne-eqb, not-true, not-false}
 use Rattle.script.specs.Script.{bad, asks, callOf, counted, sameWord, readWord, writeWord, runWord, rootWord, createWord, moveWord, deleteWord, callWord, invokeWord, passWord, postWord, findWord, markWord, stepWord, spreadWord}
 use Rattle.script.specs.Pieces.{callWith}
@@ -116,7 +116,8 @@ long-word w ns h =
     let other : (x : List ℕ) → length x < 7 → sameWord w x ≡ false = λ x l. same-length w x (omega arith) in
     simp (other readWord (omega arith), other writeWord (omega arith), other runWord (omega arith), other createWord (omega arith), other rootWord (omega arith), other moveWord (omega arith), other deleteWord (omega arith), other callWord (omega arith), other invokeWord (omega arith), other passWord (omega arith), other postWord (omega arith), other findWord (omega arith), other markWord (omega arith), other stepWord (omega arith), other spreadWord (omega arith))
 
-pub with-more : (w : List ℕ) (ns : Numbers) {r : Parsed} → 5 < ns .count → ns .count ≤ 16 → length (ns .values) ≡ 16 → r ≡ bad → r ≡ callWith w ns
+pub with-more : (w : List ℕ) (ns : Numbers) {r : Parsed} → 5 < ns .count → length (ns .values) ≡ 16 → r ≡ bad → r ≡ callWith w ns
 unfolding callWith
-with-more w ns h l e g =
-    g ∙ sym (rw (no-more w (take (ns .count) (ns .values)) (omega (arith, length-take-le (ns .count) (ns .values) (omega arith)))) (cond-both (ns .ok) bad))
+with-more w ns h e g =
+    let most : length (take (ns .count) (ns .values)) ≡ min (ns .count) 16 = length-take (ns .count) (ns .values) ∙ rw e in
+    g ∙ sym (rw (no-more w (take (ns .count) (ns .values)) (omega (arith, most))) (cond-both (ns .ok) bad))

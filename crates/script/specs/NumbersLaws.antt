@@ -4,15 +4,15 @@ use mathlib.Core.Path.{_≡_, refl, _∙_}
 use mathlib.Core.Logic.{inl, inr}
 use mathlib.Core.Bool.{Bool, true, false, cond, _&&_}
 use mathlib.Core.List.{List, [], _∷_, _++_}
-use Prim.Native.Nat.{ℕ, zero, suc, _+_, _-_, _≤_, _<_}
+use Prim.Native.Nat.{ℕ, zero, suc, _+_, _-_, _<_}
 use native.Mathlib.Nat.{zero-add, add-zero, sub-zero, suc-sub-suc}
 use native.Mathlib.Omega.{arith}
 use native.Mathlib.Decide.{decLt}
 use lib.Dec.{leb, ltb, eqb, leb·zero, leb·suc-suc, leb·suc-zero}
 use lib.ListN.{length, take, drop, set, replicate, length-append}
 use lib.Seq.{set-at, append-snoc}
-use borrow.Author.Tests.{leb-true, ltb-true, lt-ltb, eq-eqb, ne-eqb}
-use Rattle.bits.specs.AllLaws.{either, and-r, and-false}
+use borrow.Author.Tests.{ltb-true, lt-ltb, eq-eqb, ne-eqb}
+use Rattle.bits.specs.AllLaws.{either, and-false}
 use Rattle.script.specs.Script.{isNumber, value, allNumbers, values}
 use Rattle.script.specs.Pieces.{first, afterwards, numberOf, endingAt, numberAfter, numbersFrom, noNumbers, noValues}
 use Rattle.script.specs.PiecesLaws.{cond-both, piece-at, after-at, after-end}
@@ -110,10 +110,3 @@ numbers-from (p ∷ ps) vs n (suc k) e f =
 
 pub numbers-are : (ps : List (List ℕ)) → numbersFrom noValues 0 ps ≡ cond (allNumbers ps && leb (length ps) 16) (record { values = values ps ++ replicate (16 - length ps) 0; count = length ps; ok = true }) noNumbers
 numbers-are ps = rw zero-add at (numbers-from ps [] 0 16 refl refl)
-
-pub numbers-count : (ps : List (List ℕ)) → numbersFrom noValues 0 ps .count ≤ 16
-numbers-count ps = rw (numbers-are ps)
-    (elim (either (allNumbers ps && leb (length ps) 16)) [
-      | inl h ↦ rw h (leb-true (length ps) 16 (and-r (allNumbers ps) _ h))
-      | inr h ↦ rw h (omega arith)
-    ])

@@ -118,7 +118,6 @@ fn with_five(word: &[u8], a: u16, b: u16, c: u16, d: u16, e: u16) -> Parsed
 
 // The call that a word is with the numbers that follow it.
 pub fn call_of(word: &[u8], numbers: Numbers) -> Parsed
-    requires { ⌜ numbers .count ≤ 16 ⌝ }
     ensures { λ r. ⌜ r ≡ callWith (now (word .entry)) numbers ⌝ }
 {
     if !numbers.ok {

@@ -48,7 +48,6 @@ pub fn same(piece: &[u8], word: &[u8]) -> bool
 
 // Where the piece ends that begins at `at`.
 pub fn end_of(line: &[u8], at: usize) -> usize
-    requires { ⌜ at ≤ length (now line) ⌝ }
     ensures { λ r. ⌜ r ≡ at + length (first (drop at (now (line .entry)))) ⌝ }
 {
     let mut i = at;

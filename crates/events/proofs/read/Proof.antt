@@ -4,13 +4,13 @@ use borrow.Author.Needs.{needs}
 use borrow.Author.Tests.{not-true}
 use Rattle.model.specs.State.{task, object}
 use Rattle.decisions.specs.DecisionLaws.{done, refused}
-use Rattle.events.specs.EventLaws.{read-unnamed, read-told, read-fits}
+use Rattle.events.specs.EventLaws.{unnamed, read-verdict, read-told, read-fits}
 use Rattle.events.proofs.read.Statement.{statement}
 use Rattle.events.proofs.read.Tie as tie
 
 returns : tie.Need-returns
 unfolding task object
-returns c = read-unnamed _ _ _ _ _ (sym (c .before .are-named .ensures) ∙ not-true _ (c .if1 .taken))
+returns c = unnamed _ _ _ _ _ _ (read-verdict _ _ _ _ _) (sym (c .before .are-named .ensures) ∙ not-true _ (c .if1 .taken))
 
 read-requires-2 : tie.Need-read-requires-2
 read-requires-2 c κs =

@@ -4,13 +4,13 @@ use borrow.Author.Needs.{needs}
 use borrow.Author.Tests.{not-true}
 use Rattle.model.specs.State.{task, object}
 use Rattle.decisions.specs.DecisionLaws.{done, refused}
-use Rattle.events.specs.EventLaws.{write-unnamed, write-told, write-fits}
+use Rattle.events.specs.EventLaws.{unnamed, write-verdict, write-told, write-fits}
 use Rattle.events.proofs.write.Statement.{statement}
 use Rattle.events.proofs.write.Tie as tie
 
 returns : tie.Need-returns
 unfolding task object
-returns c = write-unnamed _ _ _ _ _ (sym (c .before .are-named .ensures) ∙ not-true _ (c .if1 .taken))
+returns c = unnamed _ _ _ _ _ _ (write-verdict _ _ _ _ _) (sym (c .before .are-named .ensures) ∙ not-true _ (c .if1 .taken))
 
 write-requires-2 : tie.Need-write-requires-2
 write-requires-2 c κs =

@@ -4,7 +4,6 @@ use lib.Seq.{length-take-le}
 use borrow.Author.Needs.{needs}
 use Rattle.script.specs.Script.{startWord}
 use Rattle.script.specs.PiecesLaws.{piece-within}
-use Rattle.script.specs.NumbersLaws.{numbers-count}
 use Rattle.script.specs.LineLaws.{line-start, line-call}
 use Rattle.script.proofs.read_line.Statement.{statement}
 use Rattle.script.proofs.read_line.Tie as tie
@@ -13,9 +12,6 @@ slice-aggregate-word : tie.Need-slice-aggregate-word
 slice-aggregate-word c =
     let l = c .before .before .before .args .line .now in
     sym (length-take-le (c .before .end-of .result) l (omega (arith, c .before .end-of .ensures, piece-within l 0 (omega arith))))
-
-call-of-requires : tie.Need-call-of-requires
-call-of-requires c κs = rw (c .numbers-after .ensures) (numbers-count _)
 
 returns : tie.Need-returns
 unfolding startWord
@@ -35,4 +31,4 @@ pub read-line-spec : {M : Type 1} → statement M
 read-line-spec =
     tie.close
     (tie.spec (λ c κs. search needs) slice-aggregate-word (λ c. search needs) (λ c κs. search needs) (λ c κs. search needs)
-    (λ c κs. search needs) call-of-requires returns returns-2)
+    (λ c κs. search needs) (λ c κs. search needs) returns returns-2)

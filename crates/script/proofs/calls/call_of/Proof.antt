@@ -26,7 +26,7 @@ returns-7 : tie.Need-returns-7
 returns-7 c = with-read 5 _ _ (c .before .before .before .if1 .left) (c .before .match .keys6) (search needs) (search needs) (c .with-five .ensures)
 
 returns-8 : tie.Need-returns-8
-returns-8 c = with-more _ (c .before .before .before .before .before .before .args .numbers) (omega arith) (omega arith) (search needs) (c .bad2 .ensures)
+returns-8 c = with-more _ (c .before .before .before .before .before .before .args .numbers) (omega arith) (search needs) (c .bad2 .ensures)
 
 pub call-of-spec : {M : Type 1} → statement M
 call-of-spec =

@@ -1,7 +1,7 @@
 -- Between `at` and i there is no space.
 -- Assumes nothing.
 use mathlib.Core.Path.{_≡_, refl}
-use Prim.Native.Nat.{_+_, _-_, _≤_}
+use Prim.Native.Nat.{_+_, _-_}
 use native.Mathlib.Omega.{arith}
 use lib.ListN.{length, drop, drop-of-length-le}
 use Rattle.script.specs.Pieces.{first}
@@ -10,7 +10,7 @@ use Rattle.script.proofs.pieces.end_of.Statement.{statement}
 use Rattle.script.proofs.pieces.end_of.Tie as tie
 
 abbrev Inv-loop : tie.InvT-loop
-Inv-loop line at i₀ i = (i ≤ length line) × (at + length (first (drop at line)) ≡ i + length (first (drop i line)))
+Inv-loop line at i₀ i = at + length (first (drop at line)) ≡ i + length (first (drop i line))
 
 abbrev μ-loop : tie.MeasureT-loop
 μ-loop line at i₀ i = length line - i
@@ -26,7 +26,7 @@ unfolding first
 returns-2 c =
     let s = c .before in
     let none = drop-of-length-le (s .before .args .line .now) {i = s .loop .i} (omega arith) in
-    omega (arith, rw none at (s .loop .inv .1))
+    omega (arith, rw none at (s .loop .inv))
 
 pub end-of-spec : {M : Type 1} → statement M
 end-of-spec =
@@ -34,7 +34,7 @@ end-of-spec =
     (tie.spec
     Inv-loop
     μ-loop
-    (λ c. (omega arith, refl))
+    (λ c. refl)
     (λ c. omega arith)
     returns
     (λ c. omega arith)
