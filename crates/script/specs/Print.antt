@@ -3,7 +3,7 @@
 use mathlib.Core.Path.{_≡_}
 use mathlib.Core.Bool.{cond}
 use mathlib.Core.List.{List, [], _∷_, _++_}
-use Prim.Native.Nat.{ℕ, _+_, _/_, _%_}
+use Prim.Native.Nat.{ℕ, _+_, _/_, _%_, min, max}
 use lib.Dec.{ltb}
 use lib.ListN.{length}
 use lib.Seq.{sets}
@@ -29,7 +29,7 @@ replyLine Bad = 98 ∷ 97 ∷ 100 ∷ lineFeed
 replyLine (Verdict v) = decimal v ++ lineFeed
 replyLine (Rounds v r) = decimal v ++ (32 ∷ []) ++ decimal r ++ lineFeed
 
--- the text was stored from `at` on, and ends at `end`
+-- the text was stored from `at` on as far as there is room, and ends at `end`; past the end nothing is stored
 pub record Printed (before : List ℕ) (at : ℕ) (text after : List ℕ) (end : ℕ) : Type 0 where
   pub stored : after ≡ sets before at text
-  pub ends : end ≡ at + length text
+  pub ends : end ≡ max at (min (at + length text) (length before))

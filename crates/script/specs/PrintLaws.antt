@@ -1,16 +1,15 @@
 -- Laws of what is printed.
 -- Assumes nothing.
-use mathlib.Core.Path.{_≡_, sym, ap, _∙_}
+use mathlib.Core.Path.{_≡_, refl, sym, ap, _∙_}
 use mathlib.Core.Logic.{inl, inr}
 use mathlib.Core.List.{List, [], _∷_, _++_}
-use Prim.Native.Nat.{ℕ, suc, _+_, _/_, _%_, _≤_, _<_}
+use Prim.Native.Nat.{ℕ, suc, _+_, _/_, _%_, _≤_, _<_, min, max}
 use native.Mathlib.Omega.{arith}
 use native.Mathlib.Nat.{add-zero}
-use native.Mathlib.Numerals.{add-one}
-use lib.Dec.{ltb}
-use lib.ListN.{length, getD, take, set, length-append}
-use lib.Seq.{sets, length-sets, take-suc, length-take-le}
-use borrow.Author.Tests.{lt-ltb, le-ltb}
+use lib.Dec.{ltb, leb}
+use lib.ListN.{length, set, length-append}
+use lib.Seq.{sets, length-sets, set-out}
+use borrow.Author.Tests.{lt-ltb, le-ltb, leb-true, leb-false}
 use Rattle.bits.specs.AllLaws.{either}
 use Rattle.script.specs.Print.{digit, decimal, replyLine, Printed}
 use Rattle.script.specs.declared.print.Reply.{Reply}
@@ -22,20 +21,33 @@ sets-append l i (x ∷ a) b =
     let e : i + suc (length a) ≡ suc i + length a = omega arith in
     rw e (sets-append (set l i x) (suc i) a b)
 
+-- past the end nothing is stored
+sets-out : (l : List ℕ) (i : ℕ) (t : List ℕ) → length l ≤ i → sets l i t ≡ l
+sets-out l i [] h = refl
+sets-out l i (x ∷ t) h = rw (set-out l i x h) (sets-out l (suc i) t (omega arith))
+
+-- from where a text ends, or from where it would end with room for it
+sets-from : (l : List ℕ) (at k : ℕ) (t : List ℕ) → sets l (max at (min (at + k) (length l))) t ≡ sets l (at + k) t
+sets-from l at k t =
+    elim (either (leb (at + k) (length l))) [
+      | inl a ↦ let h = leb-true (at + k) (length l) a in let e : max at (min (at + k) (length l)) ≡ at + k = omega arith in rw e
+      | inr a ↦ let h = leb-false (at + k) (length l) a in sets-out l _ t (omega arith) ∙ sym (sets-out l (at + k) t (omega arith))
+    ]
+
 -- one text after another
 pub then : {l m n : List ℕ} {s t : List ℕ} {at e f : ℕ} → Printed l at s m e → Printed m e t n f → Printed l at (s ++ t) n f
 then {l} {m} {n} {s} {t} {at} p q =
     record {
-      stored = q .stored ∙ rw (p .stored, p .ends) (sym (sets-append l at s t));
-      ends = q .ends ∙ omega (arith, p .ends, length-append s t);
+      stored = q .stored ∙ rw (p .stored, p .ends, ← length-sets l at s) (sets-from (sets l at s) at (length s) t) ∙ sym (sets-append l at s t);
+      ends = omega (arith, q .ends, p .ends, length-append s t, ap length (p .stored), length-sets l at s);
     }
 
 pub printed-length : {l m s : List ℕ} {at e : ℕ} → Printed l at s m e → length m ≡ length l
 printed-length {l} {m} {s} {at} p = ap length (p .stored) ∙ length-sets l at s
 
-pub one-more : (l : List ℕ) (at : ℕ) (t : List ℕ) (i : ℕ) → i < length t → set (sets l at (take i t)) (at + i) (getD t i 0) ≡ sets l at (take (i + 1) t)
-one-more l at t i h =
-    rw (add-one, take-suc t i 0 h, sets-append l at (take i t), length-take-le i t (omega arith))
+-- where there is room, the whole text is there
+pub printed-whole : {l m t : List ℕ} {at e : ℕ} → Printed l at t m e → at + length t ≤ length l → e ≡ at + length t
+printed-whole p h = omega (arith, p .ends)
 
 -- ---- decimal
 
@@ -59,13 +71,7 @@ small n =
       | inr a ↦ elim (either (ltb n 100)) [ inl b ↦ rw (a, b) (omega arith) | inr b ↦ rw (a, b) (omega arith) ]
     ]
 
-pub number-within : (n : ℕ) {l m : List ℕ} {at e : ℕ} → Printed l at (decimal n) m e → (e ≤ at + 3) × (length m ≡ length l)
-number-within n p = (omega (arith, p .ends, small n), printed-length p)
-
-pub byte-within : {b : ℕ} {l m : List ℕ} {at e : ℕ} → Printed l at (b ∷ []) m e → (e ≡ at + 1) × (length m ≡ length l)
-byte-within p = (p .ends, printed-length p)
-
-reply-short : (r : Reply) → length (replyLine r) ≤ 8
+pub reply-short : (r : Reply) → length (replyLine r) ≤ 8
 unfolding replyLine
 reply-short Bad = omega arith
 reply-short (Verdict v) = simp length-append (omega (arith, small v))

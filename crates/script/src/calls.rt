@@ -7,7 +7,6 @@ use levels::Order;
 use model::Call;
 ghost use mathlib.Core.Path.{_≡_};
 ghost use mathlib.Core.List.{[], _∷_};
-ghost use Prim.Native.Nat.{_≤_};
 ghost use Rattle.script.specs.Script.{noOrder, callOf};
 ghost use Rattle.script.specs.Script.{bad as bad·line, asks as asks·line};
 ghost use Rattle.script.specs.Pieces.{callWith};

@@ -1,6 +1,6 @@
 // The pieces of a line, and the number that a piece is.
 ghost use mathlib.Core.Path.{_≡_};
-ghost use Prim.Native.Nat.{_+_, _≤_};
+ghost use Prim.Native.Nat.{_+_};
 ghost use lib.ListN.{length, drop};
 ghost use Rattle.script.specs.Script.{sameWord};
 ghost use Rattle.script.specs.Pieces.{first, afterwards, numberOf, numberAfter, numbersFrom, noNumbers, noValues};

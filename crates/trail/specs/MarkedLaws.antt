@@ -17,7 +17,7 @@ use Rattle.model.specs.declared.Report.{Report}
 use Rattle.model.specs.Monitor.{nextMarked}
 use Rattle.marking.specs.FirstLaws.{First, first}
 use Rattle.script.specs.Print.{decimal, lineFeed, Printed}
-use Rattle.script.specs.PrintLaws.{then, small, printed-length}
+use Rattle.script.specs.PrintLaws.{then, small}
 use Rattle.trail.specs.Marked.{markedWord, listed, isMarked, markedLine}
 
 -- numbers that do not pass add nothing
@@ -88,9 +88,9 @@ pub all-listed : {r : Report} {l m m′ m″ : List ℕ} {at e e′ n : ℕ} →
 unfolding markedLine
 all-listed {n = n} p u h q = let z : n ≡ 128 = omega (arith, u .within) in rw (← z) (then (then p (u .text)) q)
 
-pub up-to-within : {r : Report} {l m : List ℕ} {at e n : ℕ} → UpTo r l at m e n → (e ≤ at + 4 * n) × (length m ≡ length l)
-up-to-within {r} {n = n} u = (omega (arith, u .text .ends, listed-short (isMarked r) n), printed-length (u .text))
-
-pub marked-within : (r : Report) {l m : List ℕ} {e : ℕ} → Printed l 0 (markedLine r) m e → (e ≤ 1024) × (length m ≡ length l)
+pub marked-short : (r : Report) → length (markedLine r) ≤ 1024
 unfolding markedLine markedWord
-marked-within r p = (omega (arith, p .ends, length-append (markedWord ++ listed (isMarked r) 128) lineFeed, length-append markedWord (listed (isMarked r) 128), listed-short (isMarked r) 128), printed-length p)
+marked-short r = omega (arith, length-append (markedWord ++ listed (isMarked r) 128) lineFeed, length-append markedWord (listed (isMarked r) 128), listed-short (isMarked r) 128)
+
+pub marked-within : (r : Report) {e : ℕ} → e ≡ length (markedLine r) → e ≤ 1024
+marked-within r p = omega (arith, marked-short r)

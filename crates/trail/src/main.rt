@@ -5,9 +5,11 @@ mod marked;
 use libc::STDIN_FILENO;
 use libc::STDOUT_FILENO;
 use lines::Run;
+use script::print::Reply;
 ghost use Prim.Native.Nat.{_+_, _≤_};
 ghost use mathlib.Core.Path.{_≡_};
 ghost use lib.ListN.{length};
+ghost use Rattle.script.specs.Print.{Printed, replyLine};
 ghost use Rattle.trail.specs.Buffers.{outSize, Sized, Within};
 
 // How many bytes of a line are kept. They settle what it means, however long it is: script's law `long-lines`.
@@ -60,6 +62,14 @@ fn with_room(out: &[u8], used: usize) -> Room
     }
 }
 
+// The whole answer, for which there is room.
+fn answer(out: &mut [u8], at: usize, reply: Reply) -> usize
+    requires { ⌜ at + 8 ≤ length (now out) ⌝ }
+    ensures { λ r. ⌜ Printed (now (out .entry)) at (replyLine reply) (now (out .exit)) r × (r ≡ at + length (replyLine reply)) ⌝ }
+{
+    script::print::answer(out, at, reply)
+}
+
 // A whole line is done and answered.
 fn end_line(line: &[u8], out: &mut [u8], bytes: &mut [u8], words: &mut [u64], state: State) -> State
     requires { ⌜ (length (now out) ≡ outSize) × Within state ⌝ }
@@ -69,7 +79,7 @@ fn end_line(line: &[u8], out: &mut [u8], bytes: &mut [u8], words: &mut [u64], st
     let done = lines::do_line(line, bytes, words, before);
     let room = with_room(out, state.used);
     let reply = done.reply;
-    let used = script::print::answer(out, room.used, reply);
+    let used = answer(out, room.used, reply);
     let run = done.run;
     State {
         run,

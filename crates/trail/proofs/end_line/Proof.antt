@@ -7,7 +7,7 @@ use Rattle.trail.proofs.end_line.Tie as tie
 returns : tie.Need-returns
 returns c =
     let p = c .before .before .before .before .before .before .before in
-    omega (arith, reply-within _ (p .answer .ensures), p .before .before .with-room .ensures)
+    omega (arith, reply-within _ (p .answer .ensures .0), p .before .before .with-room .ensures)
 
 pub end-line-spec : {M : Type 1} → statement M
 end-line-spec =

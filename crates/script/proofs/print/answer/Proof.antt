@@ -1,28 +1,8 @@
-use native.Mathlib.Omega.{arith}
 use borrow.Author.Needs.{needs}
 use Rattle.script.specs.Print.{replyLine}
-use Rattle.script.specs.PrintLaws.{then, number-within, byte-within}
+use Rattle.script.specs.PrintLaws.{then}
 use Rattle.script.proofs.print.answer.Statement.{statement}
 use Rattle.script.proofs.print.answer.Tie as tie
-
-byte-requires : tie.Need-byte-requires
-byte-requires c κs = omega (arith, number-within _ (c .before .before .before .number .ensures))
-
-byte-requires-2 : tie.Need-byte-requires-2
-byte-requires-2 c κs = omega (arith, number-within _ (c .before .before .before .number2 .ensures))
-
-number-requires-3 : tie.Need-number-requires-3
-number-requires-3 c κs =
-    let b = c .before .before .before in
-    let n = b .before .before .before .before in
-    omega (arith, number-within _ (n .number2 .ensures), byte-within (b .byte2 .ensures))
-
-byte-requires-3 : tie.Need-byte-requires-3
-byte-requires-3 c κs =
-    let m = c .before .before .before in
-    let b = m .before .before .before .before in
-    let n = b .before .before .before .before in
-    omega (arith, number-within _ (n .number2 .ensures), byte-within (b .byte2 .ensures), number-within _ (m .number3 .ensures))
 
 returns : tie.Need-returns
 unfolding replyLine
@@ -47,8 +27,4 @@ returns-3 c =
     rw (n .before .before .before .reply2 .given .1) (then (then (then (n .number2 .ensures) (b .byte2 .ensures)) (m .number3 .ensures)) (e .byte3 .ensures))
 
 pub answer-spec : {M : Type 1} → statement M
-answer-spec =
-    tie.close
-    (tie.spec (λ c. search needs) (λ c. search needs) (λ c κs. search needs) (λ c. search needs) (λ c κs. search needs) byte-requires
-    (λ c. search needs) (λ c κs. search needs) byte-requires-2 number-requires-3 byte-requires-3 (λ c. search needs) returns
-    (λ c. search needs) returns-2 (λ c. search needs) returns-3)
+answer-spec = tie.close (tie.spec (λ c. search needs) (λ c. search needs) (λ c κs. search needs) (λ c. search needs) (λ c κs. search needs) (λ c κs. search needs) (λ c. search needs) (λ c κs. search needs) (λ c κs. search needs) (λ c κs. search needs) (λ c κs. search needs) (λ c. search needs) returns (λ c. search needs) returns-2 (λ c. search needs) returns-3)

@@ -1,37 +1,36 @@
-use mathlib.Core.Path.{_≡_, refl, ap, _∙_}
+-- Before turn i the first i bytes are printed.
+-- Assumes nothing.
+use mathlib.Core.Path.{refl}
 use Prim.Native.Nat.{_-_, _≤_}
 use native.Mathlib.Omega.{arith}
+use native.Mathlib.Numerals.{add-one}
 use lib.ListN.{length, take}
-use lib.Seq.{sets, length-sets, take-all}
-use Rattle.script.specs.PrintLaws.{one-more}
+use lib.Seq.{take-all, take-suc}
+use borrow.Author.Needs.{needs}
+use Rattle.script.specs.Print.{Printed}
+use Rattle.script.specs.PrintLaws.{then, printed-length}
 use Rattle.script.proofs.print.text.Statement.{statement}
 use Rattle.script.proofs.print.text.Tie as tie
 
 abbrev Inv-loop : tie.InvT-loop
-Inv-loop out₀ at bytes i₀ out i = (i ≤ length bytes) × (out ≡ sets out₀ at (take i bytes))
+Inv-loop out₀ at bytes end₀ i₀ out end i = (i ≤ length bytes) × Printed out₀ at (take i bytes) out end
 
 abbrev μ-loop : tie.MeasureT-loop
-μ-loop out₀ at bytes i₀ out i = length bytes - i
+μ-loop out₀ at bytes end₀ i₀ out end i = length bytes - i
 
-kept : (s : tie.At-loop Inv-loop μ-loop) → length (s .loop .out) ≡ length (s .before .args .out .now)
-kept s = ap length (s .loop .inv .1) ∙ length-sets (s .before .args .out .now) (s .before .args .at) (take (s .loop .i) (s .before .args .bytes .now))
-
-slice-write-out : tie.Need-slice-write-out Inv-loop μ-loop
-slice-write-out c = omega (arith, kept (c .before .before))
+loop-holds : tie.Need-loop-holds Inv-loop μ-loop
+loop-holds c = (omega arith, record { stored = refl; ends = omega arith })
 
 loop-again : tie.Need-loop-again Inv-loop μ-loop
 loop-again c =
-    let s = c .before .before in
-    let a = s .before .args in
-    (omega arith, rw (s .loop .inv .1) (one-more (a .out .now) (a .at) (a .bytes .now) (s .loop .i) (omega arith)))
-
-same-length : tie.Need-same-length Inv-loop μ-loop
-same-length c = kept (c .before)
+    let b = c .before .before in
+    let l = b .before .before .before .before in
+    (omega arith, rw (add-one, take-suc (l .before .before .before .args .bytes .now) (l .loop .i) 0 (omega arith)) (then (l .loop .inv .1) (b .byte .ensures)))
 
 returns : tie.Need-returns Inv-loop μ-loop
 returns c =
-    let s = c .before in
-    record { stored = rw (← take-all (s .loop .i) (s .before .args .bytes .now) (omega arith)) (s .loop .inv .1); ends = omega arith }
+    let l = c .before .loop in
+    rw (← take-all (l .i) (c .before .before .before .before .args .bytes .now) (omega arith)) (l .inv .1)
 
 pub text-spec : {M : Type 1} → statement M
 text-spec =
@@ -39,13 +38,11 @@ text-spec =
     (tie.spec
     Inv-loop
     μ-loop
-    (λ c. (omega arith, refl))
+    loop-holds
     (λ c. omega arith)
-    (λ c. omega arith)
-    slice-write-out
+    (λ c κs. search needs)
     (λ c. omega arith)
     (λ c. omega arith)
     loop-again
-    (λ c. omega arith)
-    same-length
+    (λ c. printed-length (c .before .loop .inv .1))
     returns)

@@ -1,9 +1,10 @@
+use native.Mathlib.Nat.{zero-add}
 use native.Mathlib.Omega.{arith}
 use Prim.Native.Nat.{_+_, _-_}
 use borrow.Author.Needs.{needs}
-use Rattle.script.specs.PrintLaws.{byte-within, printed-length}
+use Rattle.script.specs.PrintLaws.{printed-length, printed-whole}
 use Rattle.trail.specs.Marked.{markedWord}
-use Rattle.trail.specs.MarkedLaws.{IsNext, next, UpTo, none-yet, one-more, all-listed, up-to-within}
+use Rattle.trail.specs.MarkedLaws.{IsNext, next, UpTo, none-yet, one-more, all-listed, marked-short}
 use Rattle.trail.proofs.marked.print.Statement.{statement}
 use Rattle.trail.proofs.marked.print.Tie as tie
 
@@ -15,17 +16,6 @@ abbrev μ-loop : tie.MeasureT-loop
 
 loop-holds : tie.Need-loop-holds Inv-loop μ-loop
 loop-holds c = none-yet _ _ (next _ 0 _ (omega arith) (c .next-marked .ensures))
-
-byte-requires : tie.Need-byte-requires Inv-loop μ-loop
-byte-requires c κs =
-    let s = c .before .before in
-    omega (arith, up-to-within (s .loop .inv), s .before .before .before .before .text .ensures .ends)
-
-number-requires : tie.Need-number-requires Inv-loop μ-loop
-number-requires c κs =
-    let b = c .before .before .before in
-    let s = b .before .before .before in
-    omega (arith, up-to-within (s .loop .inv), byte-within (b .byte .ensures))
 
 found : (c : tie.After-next-marked2 Inv-loop μ-loop) → IsNext (c .before .before .before .before .before .before .before .before .before .before .before .before .before .before .before .before .before .before .args .report) (c .before .before .before .before .before .before .before .before .before .before .loop .n + 1) (c .next-marked2 .result)
 found c = next _ _ _ (omega arith) (c .next-marked2 .ensures)
@@ -39,20 +29,16 @@ loop-again c =
     let b = n .before .before .before .before in
     one-more (b .before .before .before .loop .inv) (omega arith) (b .byte .ensures) (n .number .ensures) (found c)
 
-byte-requires-2 : tie.Need-byte-requires-2 Inv-loop μ-loop
-byte-requires-2 c κs =
-    let s = c .before .before in
-    omega (arith, up-to-within (s .loop .inv))
-
 returns : tie.Need-returns Inv-loop μ-loop
 unfolding markedWord
 returns c =
     let b = c .before .before in
     let s = b .before .before .before in
-    all-listed (s .before .before .before .before .text .ensures) (s .loop .inv) (omega arith) (b .byte2 .ensures)
+    let p = all-listed (s .before .before .before .before .text .ensures) (s .loop .inv) (omega arith) (b .byte2 .ensures) in
+    (p, simp zero-add at (printed-whole p (omega (arith, marked-short (s .before .before .before .before .before .before .before .before .args .report)))))
 
 same-length : tie.Need-same-length Inv-loop μ-loop
-same-length c = printed-length (returns c)
+same-length c = printed-length (returns c .0)
 
 pub print-spec : {M : Type 1} → statement M
 print-spec =
@@ -64,13 +50,13 @@ print-spec =
     (λ c κs. search needs)
     (λ c κs. search needs)
     loop-holds
-    byte-requires
+    (λ c κs. search needs)
     (λ c. omega arith)
-    number-requires
+    (λ c κs. search needs)
     (λ c. omega arith)
     (λ c κs. search needs)
     loop-less
     loop-again
-    byte-requires-2
+    (λ c κs. search needs)
     same-length
     returns)
