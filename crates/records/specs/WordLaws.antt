@@ -4,16 +4,16 @@ use mathlib.Core.Path.{_≡_, refl, sym, _∙_}
 use mathlib.Core.Logic.{inl, inr, ⊎-elim}
 use mathlib.Core.Bool.{Bool, true, false, not, cond, _&&_, _||_, and-eq-true-iff, true-and, and-assoc}
 use mathlib.Core.List.{List}
-use Prim.Native.Nat.{ℕ, _+_, _-_, _*_, _/_, _%_, _<_, _≤_}
+use Prim.Native.Nat.{ℕ, zero, suc, _+_, _-_, _*_, _/_, _%_, _<_, _≤_}
 use native.Mathlib.Nat.{lt-of-not-le, add-mul-mod-self-left, mod-eq-of-lt}
 use native.Mathlib.Omega.{arith}
 use lib.Dec.{ltb, eqb}
 use lib.ListN.{getD, length}
 use mir.Syntax.{w8}
 use mir.Val.{Fits}
-use borrow.Author.Tests.{eqb-true, eqb-false, eq-eqb, ne-eqb, ltb-true, lt-ltb, ltb-false, not-true}
+use borrow.Author.Tests.{eqb-true, eqb-false, eq-eqb, ne-eqb, ltb-true, lt-ltb, ltb-false, le-ltb, not-true}
 use Rattle.bits.specs.All.{allB}
-use Rattle.bits.specs.AllLaws.{and-i, and-r, both-ways, either, or-false}
+use Rattle.bits.specs.AllLaws.{and-i, and-true, and-false, both-ways, either}
 use Rattle.bits.specs.BitLaws.{digit}
 use Rattle.levels.specs.declared.Order.{Order}
 use Rattle.records.specs.Records.{numbers, recordSize, rootSign, field, kind, level, readLevel, driver, container, marks, spare, isTask, isObject, freeRecord, taskRecord, objectRecord, soundRecord}
@@ -31,24 +31,9 @@ half bs x f = joined (field bs x f) (field bs x (f + 1)) (field bs x (f + 2)) (f
 unfoldable pub word : List ℕ → ℕ → ℕ
 word bs x = half bs x 0 + half bs x 4 * 0x1_0000_0000
 
--- kind 2, level and driver below 128, read level 0, marks 0 or 1, spare bytes 0
-unfoldable pub objectWord : ℕ → Bool
-objectWord w = eqb (w % 0x100) 2 && eqb (w / 0x8000 % 2) 0 && eqb (w / 0x1_0000 % 0x100) 0 && eqb (w / 0x8000_0000 % 2) 0 && eqb (w / 0x200_0000_0000) 0
-
--- kind 1, level and read level below 128, driver and container 0, marks 0 to 3, spare bytes 0
-unfoldable pub taskWord : ℕ → Bool
-taskWord w = eqb (w % 0x100) 1 && eqb (w / 0x8000 % 2) 0 && eqb (w / 0x80_0000 % 2) 0 && eqb (w / 0x100_0000 % 0x1_0000) 0 && eqb (w / 0x400_0000_0000) 0
-
 -- the container c of the object x is the root sign or another object
 unfoldable pub containerFits : List ℕ → ℕ → ℕ → Bool
 containerFits bs x c = eqb c rootSign || (isObject bs c && not (eqb c x))
-
--- the record of x is sound, but that its levels are below 128 and not below the count
-unfoldable pub wordSound : List ℕ → ℕ → Bool
-wordSound bs x =
-    cond (objectWord (word bs x))
-    (isTask bs (word bs x / 0x100_0000 % 0x80) && containerFits bs x (word bs x / 0x1_0000_0000 % 0x100))
-    (eqb (word bs x) 0 || (taskWord (word bs x) && not (eqb (word bs x / 0x100_0000_0000) 2)))
 
 -- the level and the read level of w, each with 128 less the count added
 abbrev pub raised : ℕ → ℕ → ℕ
@@ -57,6 +42,52 @@ raised count w = w % 0x100_0000 + (0x80 - count) * 0x1_0100
 -- neither of the two reaches 128
 unfoldable pub below : ℕ → Bool
 below s = eqb (s / 0x8000 % 2) 0 && eqb (s / 0x80_0000 % 2) 0
+
+-- level and driver below 128, read level 0, marks 0 or 1, spare bytes 0
+unfoldable pub objectBits : ℕ → Bool
+objectBits w = eqb (w / 0x8000 % 2) 0 && eqb (w / 0x1_0000 % 0x100) 0 && eqb (w / 0x8000_0000 % 2) 0 && eqb (w / 0x200_0000_0000) 0
+
+-- kind 0 or 1, level and read level below 128, driver and container 0, marks 0 to 3, spare bytes 0
+unfoldable pub otherBits : ℕ → Bool
+otherBits w = eqb (w / 2 % 0x80) 0 && eqb (w / 0x8000 % 2) 0 && eqb (w / 0x80_0000 % 2) 0 && eqb (w / 0x100_0000 % 0x1_0000) 0 && eqb (w / 0x400_0000_0000) 0
+
+-- of three times the marks: they are not 2
+unfoldable pub notTwo : ℕ → Bool
+notTwo t = eqb (t / 4 % 2) 0
+
+-- w where it is even, else 0
+unfoldable pub ifEven : ℕ → ℕ
+ifEven w = cond (eqb (w % 2) 0) w 0
+
+-- of the kinds 0 to 2, that of a task and that of an object
+abbrev pub taskKind : ℕ → Bool
+taskKind k = eqb (k % 2) 1
+
+abbrev pub objectKind : ℕ → Bool
+objectKind k = eqb (k / 2 % 2) 1
+
+-- where the kind of the container c of x is looked up: a root stands for itself
+unfoldable pub placeOf : ℕ → ℕ → ℕ
+placeOf x c = cond (eqb c rootSign) x c
+
+-- the object x may lie in c
+unfoldable pub liesIn : List ℕ → ℕ → ℕ → Bool
+liesIn bs x c = not (eqb c x) && ltb (placeOf x c) numbers && objectKind (kind bs (placeOf x c))
+
+-- the record w of the object x passes, and a record w that is no object's
+unfoldable pub objectFits : List ℕ → ℕ → ℕ → Bool
+objectFits bs x w = objectBits w && taskKind (kind bs (w / 0x100_0000 % 0x80)) && liesIn bs x (w / 0x1_0000_0000 % 0x100)
+
+unfoldable pub otherFits : ℕ → Bool
+otherFits w = otherBits w && notTwo (w / 0x100_0000_0000 * 3) && eqb (ifEven w) 0
+
+-- the record of x passes
+unfoldable pub wordFits : List ℕ → ℕ → Bool
+wordFits bs x = cond (eqb (word bs x % 0x100) 2) (objectFits bs x (word bs x)) (otherFits (word bs x))
+
+-- the level and the read level of w are below n
+unfoldable pub low : ℕ → ℕ → Bool
+low n w = ltb (w / 0x100 % 0x100) n && ltb (w / 0x1_0000 % 0x100) n
 
 -- the marks of an object, and of a task
 abbrev pub objectMarks : ℕ → Bool
@@ -78,10 +109,6 @@ plainSound count bs x =
 
 -- ---- numbers
 
-cond-and : (a b : Bool) → cond a b false ≡ (a && b)
-cond-and true b = refl
-cond-and false b = refl
-
 object-marks : (m : ℕ) → objectMarks m ≡ ltb m 2
 object-marks m =
     both-ways _ _
@@ -96,6 +123,34 @@ task-marks m =
     (λ h. let e = eqb-true m 3 h in simp (lt-ltb m 4 (omega arith), ne-eqb m 2 (omega arith)))
     (λ h. let p = simp and-eq-true-iff at h in let n = eqb-false m 2 (not-true _ (p .1)) in omega (arith, ltb-true, eq-eqb))))
     (either (ltb m 2)))
+
+-- ---- an object and its container
+
+module _ (bs : List ℕ) (x w : ℕ) where
+  pub in-itself : w / 0x1_0000_0000 % 0x100 ≡ x → objectFits bs x w ≡ false
+  unfolding objectFits liesIn
+  in-itself e = simp (eq-eqb (w / 0x1_0000_0000 % 0x100) x e, and-false)
+
+  pub in-no-number : numbers ≤ placeOf x (w / 0x1_0000_0000 % 0x100) → objectFits bs x w ≡ false
+  unfolding objectFits liesIn
+  in-no-number l = simp (le-ltb (placeOf x (w / 0x1_0000_0000 % 0x100)) numbers l, and-false)
+
+  pub in-number : (w / 0x1_0000_0000 % 0x100 ≡ x → ⊥)
+      → placeOf x (w / 0x1_0000_0000 % 0x100) < numbers
+      → objectFits bs x w ≡ (objectBits w && taskKind (kind bs (w / 0x100_0000 % 0x80)) && objectKind (kind bs (placeOf x (w / 0x1_0000_0000 % 0x100))))
+  unfolding objectFits liesIn
+  in-number n l = simp (ne-eqb (w / 0x1_0000_0000 % 0x100) x n, lt-ltb (placeOf x (w / 0x1_0000_0000 % 0x100)) numbers l)
+
+-- ---- numbers
+
+-- of 0 to 3, three times 2 alone has bit 2
+not-two : (m : ℕ) → m < 4 → notTwo (m * 3) ≡ not (eqb m 2)
+unfolding notTwo
+not-two zero l = refl
+not-two (suc zero) l = refl
+not-two (suc (suc zero)) l = refl
+not-two (suc (suc (suc zero))) l = refl
+not-two (suc (suc (suc (suc m)))) l = absurd (omega (arith, l))
 
 -- of a level and a read level below 128, with 128 less n added to each, neither reaches 128 where both are below n
 below-is : (k l r n : ℕ) → k < 0x100 → l < 0x80 → r < 0x80 → n < 0x80 → below (k + l * 0x100 + r * 0x1_0000 + (0x80 - n) * 0x1_0100) ≡ (ltb l n && ltb r n)
@@ -189,88 +244,134 @@ module _ (o : Order) (bs : List ℕ) (x : ℕ) (long : length bs ≡ recordSize 
       → below (raised (o .count) (word bs x)) ≡ (ltb (level bs x) (o .count) && ltb (readLevel bs x) (o .count))
   levels-fit m l r = simp (w-low, below-is (kind bs x) (level bs x) (readLevel bs x) (o .count) (byte-of 0) l r m)
 
-  object-tests : objectWord (word bs x)
-      ≡ (eqb (kind bs x) 2 && eqb (level bs x / 0x80) 0 && eqb (readLevel bs x) 0 && eqb (driver bs x / 0x80) 0 && eqb (rest / 2) 0)
-  unfolding objectWord
-  object-tests =
-      let l : word bs x / 0x8000 % 2 ≡ level bs x / 0x80 = omega (arith, w-level) in
-      let d : word bs x / 0x8000_0000 % 2 ≡ driver bs x / 0x80 = omega (arith, w-driver) in
-      let m : word bs x / 0x200_0000_0000 ≡ rest / 2 = omega (arith, w-rest) in
-      simp (w-kind, l, w-read, d, m)
-
-  task-tests : taskWord (word bs x)
-      ≡ (eqb (kind bs x) 1 && eqb (level bs x / 0x80) 0 && eqb (readLevel bs x / 0x80) 0 && eqb (driver bs x + container bs x * 0x100) 0 && eqb (rest / 4) 0)
-  unfolding taskWord
-  task-tests =
-      let l : word bs x / 0x8000 % 2 ≡ level bs x / 0x80 = omega (arith, w-level) in
-      let r : word bs x / 0x80_0000 % 2 ≡ readLevel bs x / 0x80 = omega (arith, w-read) in
-      let d : word bs x / 0x100_0000 % 0x1_0000 ≡ driver bs x + container bs x * 0x100 = omega (arith, w-driver, w-container) in
-      let m : word bs x / 0x400_0000_0000 ≡ rest / 4 = omega (arith, w-rest) in
-      simp (w-kind, l, r, d, m)
-
   -- a driver that is a task is one of the numbers
   driver-below : (d : ℕ) → isTask bs d ≡ true → d < numbers
   unfolding isTask
   driver-below d t = lt-of-not-le (λ (l : numbers ≤ d). omega (arith, eqb-true, field-past bs d 0 long l))
 
-  -- ---- the record is sound where its levels fit and its number passes
+  object-bits : objectBits (word bs x) ≡ (eqb (level bs x / 0x80) 0 && eqb (readLevel bs x) 0 && eqb (driver bs x / 0x80) 0 && eqb (rest / 2) 0)
+  unfolding objectBits
+  object-bits =
+      let l : word bs x / 0x8000 % 2 ≡ level bs x / 0x80 = omega (arith, w-level) in
+      let d : word bs x / 0x8000_0000 % 2 ≡ driver bs x / 0x80 = omega (arith, w-driver) in
+      let m : word bs x / 0x200_0000_0000 ≡ rest / 2 = omega (arith, w-rest) in
+      simp (l, w-read, d, m)
 
-  not-free : (kind bs x ≡ 0 → ⊥) → eqb (word bs x) 0 ≡ false
-  not-free n = ne-eqb (word bs x) 0 (λ e. n (omega (arith, w-kind)))
+  other-bits : otherBits (word bs x)
+      ≡ (eqb (kind bs x / 2) 0 && eqb (level bs x / 0x80) 0 && eqb (readLevel bs x / 0x80) 0 && eqb (driver bs x + container bs x * 0x100) 0 && eqb (rest / 4) 0)
+  unfolding otherBits
+  other-bits =
+      let k : word bs x / 2 % 0x80 ≡ kind bs x / 2 = omega (arith, w-kind) in
+      let l : word bs x / 0x8000 % 2 ≡ level bs x / 0x80 = omega (arith, w-level) in
+      let r : word bs x / 0x80_0000 % 2 ≡ readLevel bs x / 0x80 = omega (arith, w-read) in
+      let d : word bs x / 0x100_0000 % 0x1_0000 ≡ driver bs x + container bs x * 0x100 = omega (arith, w-driver, w-container) in
+      let m : word bs x / 0x400_0000_0000 ≡ rest / 4 = omega (arith, w-rest) in
+      simp (k, l, r, d, m)
 
-  not-task : (kind bs x ≡ 1 → ⊥) → taskWord (word bs x) ≡ false
-  not-task n = simp (task-tests, ne-eqb (kind bs x) 1 n)
+  -- a record that passes has a kind of 0 to 2, and so has a sound one
+  pub few-fit : wordFits bs x ≡ true → kind bs x ≤ 2
+  unfolding wordFits otherFits
+  few-fit h =
+      ⊎-elim
+      (λ (t : eqb (word bs x % 0x100) 2 ≡ true). omega (arith, w-kind, eqb-true (word bs x % 0x100) 2 t))
+      (λ (f : eqb (word bs x % 0x100) 2 ≡ false). let p = simp (f, other-bits, and-eq-true-iff) at h in omega (arith, eqb-true))
+      (either (eqb (word bs x % 0x100) 2))
 
-  not-object : (kind bs x ≡ 2 → ⊥) → objectWord (word bs x) ≡ false
-  not-object n = simp (object-tests, ne-eqb (kind bs x) 2 n)
+  pub few-sound : soundRecord o bs x ≡ true → kind bs x ≤ 2
+  few-sound h =
+      ⊎-elim
+      (λ t. omega (arith, eqb-true (kind bs x) 1 t))
+      (λ t. ⊎-elim
+      (λ n. omega (arith, eqb-true (kind bs x) 2 n))
+      (λ n. let e = sym (sound-else o bs x (eqb-false (kind bs x) 1 t) (eqb-false (kind bs x) 2 n)) ∙ h in omega (arith, w-kind, eqb-true (word bs x) 0 (free-word ∙ e)))
+      (either (eqb (kind bs x) 2)))
+      (either (eqb (kind bs x) 1))
 
-  module _ (some : 0 < o .count) (most : o .count < 0x80) where
+  -- ---- where no kind is above 2, the record is sound where its levels fit and its number passes
+
+  module _ (mine : x < numbers) (few : (y : ℕ) → y < numbers → kind bs y ≤ 2) (some : 0 < o .count) (most : o .count < 0x80) where
+    task-kind : (d : ℕ) → d < numbers → taskKind (kind bs d) ≡ isTask bs d
+    unfolding isTask
+    task-kind d l = both-ways _ _ (λ h. omega (arith, few d l, eqb-true, eq-eqb)) (λ h. omega (arith, eqb-true, eq-eqb))
+
+    object-kind : (c : ℕ) → c < numbers → objectKind (kind bs c) ≡ isObject bs c
+    unfolding isObject
+    object-kind c l = both-ways _ _ (λ h. omega (arith, few c l, eqb-true, eq-eqb)) (λ h. omega (arith, eqb-true, eq-eqb))
+
+    past : (c : ℕ) → numbers ≤ c → isObject bs c ≡ false
+    unfolding isObject
+    past c l = rw (field-past bs c 0 long l)
+
+    lies-in : kind bs x ≡ 2 → (c : ℕ) → liesIn bs x c ≡ containerFits bs x c
+    unfolding liesIn containerFits placeOf
+    lies-in e c =
+        ⊎-elim
+        (λ (t : eqb c rootSign ≡ true). let r = eqb-true c rootSign t in simp (t, ne-eqb c x (omega arith), lt-ltb x numbers mine, e))
+        (λ (f : eqb c rootSign ≡ false). ⊎-elim
+        (λ (t : ltb c numbers ≡ true). simp (f, t, object-kind c (ltb-true c numbers t), and-true) (and-swap (not (eqb c x)) (isObject bs c)))
+        (λ (g : ltb c numbers ≡ false). simp (f, g, past c (ltb-false c numbers g), and-false))
+        (either (ltb c numbers)))
+        (either (eqb c rootSign))
+      where
+        and-swap : (a b : Bool) → (a && b) ≡ (b && a)
+        and-swap true b = sym (and-true b)
+        and-swap false b = sym (and-false b)
+
     passes : Bool
-    passes = below (raised (o .count) (word bs x)) && wordSound bs x
+    passes = below (raised (o .count) (word bs x)) && wordFits bs x
 
-    passes-free : (kind bs x ≡ 1 → ⊥) → (kind bs x ≡ 2 → ⊥) → passes ≡ freeRecord bs x
-    unfolding passes wordSound
-    passes-free t n =
-        simp (not-object n, not-task t, or-false, sym free-word)
-        (both-ways _ _ (λ h. and-r (below (raised (o .count) (word bs x))) (eqb (word bs x) 0) h) (λ h. and-i (zero-fits (eqb-true _ _ h)) h))
+    passes-free : kind bs x ≡ 0 → passes ≡ freeRecord bs x
+    unfolding passes wordFits otherFits otherBits notTwo ifEven
+    passes-free e =
+        let even : word bs x % 2 ≡ 0 = omega (arith, w-kind) in
+        simp (ne-eqb (word bs x % 0x100) 2 (omega (arith, w-kind)), even, sym free-word) (both-ways _ _
+        (λ h. let p = simp and-eq-true-iff at h in p .1 .1)
+        (λ h. let z = eqb-true _ _ h in and-i (zero-fits z) (rw z)))
       where
         zero-fits : word bs x ≡ 0 → below (raised (o .count) (word bs x)) ≡ true
-        zero-fits e = simp (e, below-is 0 0 0 (o .count) (omega arith) (omega arith) (omega arith) most, lt-ltb 0 (o .count) some)
+        zero-fits z = simp (z, below-is 0 0 0 (o .count) (omega arith) (omega arith) (omega arith) most, lt-ltb 0 (o .count) some)
 
     passes-task : kind bs x ≡ 1 → passes ≡ taskRecord o bs x
-    unfolding passes wordSound
+    unfolding passes wordFits otherFits ifEven
     passes-task e =
-        simp (not-object (omega arith), not-free (omega arith), task-tests, w-rest, task-is, task-marks)
+        let odd : word bs x % 2 ≡ 1 = omega (arith, w-kind) in
+        simp (ne-eqb (word bs x % 0x100) 2 (omega (arith, w-kind)), odd, other-bits, w-rest, task-is, task-marks)
         (both-ways _ _
         (λ h. let p = simp and-eq-true-iff at h in
         let q = simp (levels-fit most (omega (arith, eqb-true)) (omega (arith, eqb-true)), and-eq-true-iff) at (p .0) in
-        simp and-eq-true-iff (omega (arith, eqb-true, ltb-true, eq-eqb, lt-ltb), (omega (arith, eqb-true, lt-ltb), p .1 .1)))
+        simp and-eq-true-iff (omega (arith, eqb-true, ltb-true, eq-eqb, lt-ltb), (omega (arith, eqb-true, lt-ltb), sym (not-two rest (omega (arith, eqb-true))) ∙ p .1 .0 .1)))
         (λ h. let p = simp and-eq-true-iff at h in
-        simp (and-eq-true-iff, levels-fit most (omega (arith, ltb-true)) (omega (arith, ltb-true)))
-        (omega (arith, ltb-true, lt-ltb), (omega (arith, eqb-true, ltb-true, eq-eqb), p .1 .1))))
+        simp (and-eq-true-iff, levels-fit most (omega (arith, ltb-true)) (omega (arith, ltb-true)), not-two rest (ltb-true rest 4 (p .1 .0)))
+        (omega (arith, ltb-true, lt-ltb), ((omega (arith, eqb-true, ltb-true, eq-eqb), p .1 .1), refl))))
 
     passes-object : kind bs x ≡ 2 → passes ≡ objectRecord o bs x
-    unfolding passes wordSound
+    unfolding passes wordFits objectFits
     passes-object e =
-        simp (not-task (omega arith), not-free (omega arith), cond-and, object-tests, w-container, object-is, object-marks)
+        simp (eq-eqb (word bs x % 0x100) 2 (omega (arith, w-kind)), object-bits, w-container, lies-in e, object-is, object-marks)
         (both-ways _ _
         (λ h. let p = simp and-eq-true-iff at h in
         let q = simp (levels-fit most (omega (arith, eqb-true)) (omega (arith, eqb-true)), and-eq-true-iff) at (p .0) in
         let d : word bs x / 0x100_0000 % 0x80 ≡ driver bs x = omega (arith, eqb-true, w-driver) in
-        simp and-eq-true-iff (((omega (arith, eqb-true, ltb-true, eq-eqb, lt-ltb), rw d at (p .1 .1 .0)), p .1 .1 .1), omega (arith, eqb-true, lt-ltb)))
+        let t = rw (task-kind (driver bs x) (omega (arith, eqb-true))) at (rw d at (p .1 .0 .1)) in
+        simp and-eq-true-iff (((omega (arith, eqb-true, ltb-true, eq-eqb, lt-ltb), t), p .1 .1), omega (arith, eqb-true, lt-ltb)))
         (λ h. let p = simp and-eq-true-iff at h in
         let b = driver-below (driver bs x) (p .0 .0 .1) in
         let d : word bs x / 0x100_0000 % 0x80 ≡ driver bs x = omega (arith, w-driver) in
-        simp (and-eq-true-iff, d, levels-fit most (omega (arith, ltb-true)) (omega (arith, eqb-true)))
-        (omega (arith, eqb-true, ltb-true, lt-ltb), (omega (arith, eqb-true, ltb-true, eq-eqb), (p .0 .0 .1, p .0 .1)))))
+        simp (and-eq-true-iff, d, task-kind (driver bs x) b, levels-fit most (omega (arith, ltb-true)) (omega (arith, eqb-true)))
+        (omega (arith, eqb-true, ltb-true, lt-ltb), (((omega (arith, eqb-true, ltb-true, eq-eqb), p .0 .0 .1), p .0 .1)))))
 
-    pub word-record : (below (raised (o .count) (word bs x)) && wordSound bs x) ≡ soundRecord o bs x
+    pub word-record : (below (raised (o .count) (word bs x)) && wordFits bs x) ≡ soundRecord o bs x
     unfolding passes
     word-record =
         ⊎-elim
         (λ t. let e = eqb-true (kind bs x) 1 t in passes-task e ∙ sym (sound-task o bs x e))
         (λ t. ⊎-elim
         (λ n. let e = eqb-true (kind bs x) 2 n in passes-object e ∙ sym (sound-object o bs x e))
-        (λ n. let f = eqb-false (kind bs x) 1 t in let g = eqb-false (kind bs x) 2 n in passes-free f g ∙ sym (sound-else o bs x f g))
+        (λ n. let f = eqb-false (kind bs x) 1 t in let g = eqb-false (kind bs x) 2 n in passes-free (omega (arith, few x mine)) ∙ sym (sound-else o bs x f g))
         (either (eqb (kind bs x) 2)))
         (either (eqb (kind bs x) 1))
+
+    -- levels below the count fit
+    pub low-fits : low (o .count) (word bs x) ≡ true → below (raised (o .count) (word bs x)) ≡ true
+    unfolding low
+    low-fits h = let p = simp (w-level, w-read, and-eq-true-iff) at h in simp (levels-fit most (omega (arith, ltb-true)) (omega (arith, ltb-true)), and-eq-true-iff) p

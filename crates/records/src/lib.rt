@@ -1,5 +1,6 @@
 // The records of the numbers, and the test that the bytes are sound.
 ghost use mathlib.Core.Path.{_≡_};
+ghost use mathlib.Core.Bool.{true, false};
 ghost use Prim.Native.Nat.{_+_, _*_, _%_, _≤_, _<_};
 ghost use lib.ListN.{length, replicate};
 ghost use Rattle.records.specs.Records.{
@@ -15,8 +16,22 @@ ghost use Rattle.records.specs.Records.{
   coreRecord,
   sound,
 };
-ghost use Rattle.records.specs.WordLaws.{joined, half, word, objectWord, taskWord, containerFits, wordSound};
-ghost use Rattle.records.specs.GroupLaws.{groupSize, groupFree, groupsFree, levelsFit, groupSound, allSound, FreeUntil};
+ghost use Rattle.records.specs.WordLaws.{
+  joined,
+  half,
+  word,
+  containerFits,
+  objectBits,
+  otherBits,
+  placeOf,
+  ifEven,
+  objectFits,
+  otherFits,
+  wordFits,
+  low,
+};
+ghost use Rattle.records.specs.SeenLaws.{seenFits, Sees};
+ghost use Rattle.records.specs.GroupLaws.{groupSize, groupFree, groupsFree, allSound, FreeUntil, Gathered, levelsFit};
 use levels::Order;
 
 // How many numbers there are, and the bytes of a record and of them all.
@@ -176,45 +191,171 @@ fn container_sound(bytes: &[u8], x: usize, container: usize) -> bool
     }
 }
 
-// What an object's record shows by itself: kind 2, level and driver below 128, read level 0, marks 0 or 1, spare bytes 0. The
-// compiler joins these tests into one mask and one comparison.
-fn object_word(w: usize) -> bool
-    ensures { λ r. ⌜ r ≡ objectWord w ⌝ }
+// ---- All records are passed by once. What a test looks at is gathered by `or` and `and`, so that one test at the end is that
+// of each record, and few branches are left whose way depends on it.
+
+// What the records passed by have shown.
+struct Seen {
+    // The objects' records, and all others.
+    objects: usize,
+    others: usize,
+    // Of the others: three times the marks, and those that are even.
+    tripled: usize,
+    even: usize,
+    // The kinds of the objects' drivers and of their containers.
+    drivers: u8,
+    containers: u8,
+    // An object lies in itself, or in no number.
+    unfit: bool,
+}
+
+// What an object's record shows by itself: level and driver below 128, read level 0, marks 0 or 1, spare bytes 0. The compiler
+// joins these tests into one mask and one comparison.
+fn object_bits(w: usize) -> bool
+    ensures { λ r. ⌜ r ≡ objectBits w ⌝ }
 {
-    (w % 0x100 == 2)
-        & (w / 0x8000 % 2 == 0)
+    (w / 0x8000 % 2 == 0)
         & (w / 0x1_0000 % 0x100 == 0)
         & (w / 0x8000_0000 % 2 == 0)
         & (w / 0x200_0000_0000 == 0)
 }
 
-// And a task's: kind 1, level and read level below 128, driver and container 0, marks 0 to 3, spare bytes 0.
-fn task_word(w: usize) -> bool
-    ensures { λ r. ⌜ r ≡ taskWord w ⌝ }
+// And another's: kind 0 or 1, level and read level below 128, driver and container 0, marks 0 to 3, spare bytes 0.
+fn other_bits(w: usize) -> bool
+    ensures { λ r. ⌜ r ≡ otherBits w ⌝ }
 {
-    (w % 0x100 == 1)
+    (w / 2 % 0x80 == 0)
         & (w / 0x8000 % 2 == 0)
         & (w / 0x80_0000 % 2 == 0)
         & (w / 0x100_0000 % 0x1_0000 == 0)
         & (w / 0x400_0000_0000 == 0)
 }
 
-// The record of x is sound, but that its levels are only known to be below 128.
-fn record_sound(bytes: &[u8], x: usize) -> bool
+// The number where the kind of the container of x is looked up: a root stands for itself, being an object.
+fn place_of(x: usize, container: usize) -> usize
+    ensures { λ r. ⌜ r ≡ placeOf x container ⌝ }
+{
+    if container == ROOT_SIGN as usize {
+        x
+    } else {
+        container
+    }
+}
+
+// Only a free record may be even, and then it is 0.
+fn if_even(w: usize) -> usize
+    ensures { λ r. ⌜ r ≡ ifEven w ⌝ }
+{
+    if w % 2 == 0 { w } else { 0 }
+}
+
+fn unfit() -> Seen
+    ensures { λ r. ⌜ r .unfit ≡ true ⌝ }
+{
+    Seen {
+        objects: 0,
+        others: 0,
+        tripled: 0,
+        even: 0,
+        drivers: 0,
+        containers: 0,
+        unfit: true,
+    }
+}
+
+// With the record w of the object x.
+fn with_object(bytes: &[u8], x: usize, w: usize, seen: Seen) -> Seen
     requires { ⌜ (length (now bytes) ≡ recordSize * numbers) × (x < numbers) ⌝ }
-    ensures { λ r. ⌜ r ≡ wordSound (now (bytes .entry)) x ⌝ }
+    ensures { λ r. ⌜ Sees (objectFits (now (bytes .entry)) x w) w seen r ⌝ }
+{
+    let container = w / 0x1_0000_0000 % 0x100;
+    if container == x {
+        return unfit();
+    }
+    let place = place_of(x, container);
+    if place >= NUMBERS {
+        return unfit();
+    }
+    let objects = seen.objects | w;
+    let driver = kind_at(bytes, w / 0x100_0000 % 0x80);
+    let holder = kind_at(bytes, place);
+    Seen {
+        objects,
+        others: seen.others,
+        tripled: seen.tripled,
+        even: seen.even,
+        drivers: seen.drivers & driver,
+        containers: seen.containers & holder,
+        unfit: seen.unfit,
+    }
+}
+
+// With a record w that is no object's. Three times the marks has bit 2 where they are 2, the one number to 3 that they are not.
+fn with_other(w: usize, seen: Seen) -> Seen
+    ensures { λ r. ⌜ Sees (otherFits w) w seen r ⌝ }
+{
+    let others = seen.others | w;
+    let tripled = seen.tripled | (w / 0x100_0000_0000 * 3);
+    let even = seen.even | if_even(w);
+    Seen {
+        objects: seen.objects,
+        others,
+        tripled,
+        even,
+        drivers: seen.drivers,
+        containers: seen.containers,
+        unfit: seen.unfit,
+    }
+}
+
+fn with_record(bytes: &[u8], x: usize, seen: Seen) -> Seen
+    requires { ⌜ (length (now bytes) ≡ recordSize * numbers) × (x < numbers) ⌝ }
+    ensures { λ r. ⌜ Sees (wordFits (now (bytes .entry)) x) (word (now (bytes .entry)) x) seen r ⌝ }
 {
     let w = word(bytes, x);
-    if object_word(w) {
-        if kind_at(bytes, w / 0x100_0000 % 0x80) != TASK {
-            return false;
+    if w % 0x100 == 2 {
+        with_object(bytes, x, w, seen)
+    } else {
+        with_other(w, seen)
+    }
+}
+
+// With the group from x on. Nothing more is looked at after an unfit object.
+fn with_group(bytes: &[u8], x: usize, seen: Seen) -> Seen
+    requires { ⌜ (length (now bytes) ≡ recordSize * numbers) × (x + groupSize ≤ numbers) × Gathered (now bytes) x seen ⌝ }
+    ensures { λ r. ⌜ (r .unfit ≡ false → Gathered (now (bytes .entry)) (x + groupSize) r) × (r .unfit ≡ true → Gathered (now (bytes .entry)) numbers r) ⌝ }
+{
+    let mut next = seen;
+    let mut k: usize = 0;
+    while k < GROUP_SIZE {
+        next = with_record(bytes, x + k, next);
+        if next.unfit {
+            return next;
         }
-        return container_sound(bytes, x, w / 0x1_0000_0000 % 0x100);
+        k += 1;
     }
-    if w == 0 {
-        return true;
-    }
-    task_word(w) & (w / 0x100_0000_0000 != 2)
+    next
+}
+
+// What is gathered is what sound records show, but that levels are only known to be below 128.
+fn seen_fits(seen: Seen) -> bool
+    ensures { λ r. ⌜ r ≡ seenFits seen ⌝ }
+{
+    let kept = !seen.unfit;
+    kept
+        & object_bits(seen.objects)
+        & other_bits(seen.others)
+        & (seen.tripled / 4 % 2 == 0)
+        & (seen.even == 0)
+        & (seen.drivers % 2 == 1)
+        & (seen.containers / 2 % 2 == 1)
+}
+
+// The level and the read level of w are below the count.
+fn levels_low(w: usize, count: usize) -> bool
+    ensures { λ r. ⌜ r ≡ low count w ⌝ }
+{
+    (w / 0x100 % 0x100 < count) & (w / 0x1_0000 % 0x100 < count)
 }
 
 // Number 0 is a task at the top level.
@@ -238,38 +379,20 @@ fn group_free(bytes: &[u8], x: usize) -> bool
     any == 0
 }
 
-// The levels and read levels of the group from x on are below the count, if they are below 128: with 128 less the count added,
-// none reaches 128, which is bit 15 of the number for the level and bit 23 for the read level.
-fn levels_fit(bytes: &[u8], x: usize, count: usize) -> bool
-    requires { ⌜ (length (now bytes) ≡ recordSize * numbers) × (x + groupSize ≤ numbers) × (count < 128) ⌝ }
-    ensures { λ r. ⌜ r ≡ levelsFit count (now (bytes .entry)) x ⌝ }
+// The levels and read levels of all records are below the count, if they are below 128: with 128 less the count added, none
+// reaches 128, which is bit 15 of the number for the level and bit 23 for the read level.
+fn levels_fit(bytes: &[u8], count: usize) -> bool
+    requires { ⌜ (length (now bytes) ≡ recordSize * numbers) × (count < 128) ⌝ }
+    ensures { λ r. ⌜ r ≡ levelsFit count (now (bytes .entry)) ⌝ }
 {
     let rise = (0x80 - count) * 0x1_0100;
     let mut any: usize = 0;
-    let mut k: usize = 0;
-    while k < GROUP_SIZE {
-        any = any | (word(bytes, x + k) % 0x100_0000 + rise);
-        k += 1;
+    let mut x: usize = 0;
+    while x < NUMBERS {
+        any = any | (word(bytes, x) % 0x100_0000 + rise);
+        x += 1;
     }
     (any / 0x8000 % 2 == 0) & (any / 0x80_0000 % 2 == 0)
-}
-
-// The records of the group from x on are sound.
-fn group_sound(bytes: &[u8], order: Order, x: usize) -> bool
-    requires { ⌜ (length (now bytes) ≡ recordSize * numbers) × (x + groupSize ≤ numbers) × (0 < order .count) × (order .count < 128) ⌝ }
-    ensures { λ r. ⌜ r ≡ groupSound order (now (bytes .entry)) x ⌝ }
-{
-    if !levels_fit(bytes, x, order.count as usize) {
-        return false;
-    }
-    let mut k: usize = 0;
-    while k < GROUP_SIZE {
-        if !record_sound(bytes, x + k) {
-            return false;
-        }
-        k += 1;
-    }
-    true
 }
 
 // The four groups from x on are free: one test for 32 records.
@@ -296,6 +419,54 @@ fn free_until(bytes: &[u8], from: usize) -> usize
         x += FOUR_GROUPS;
     }
     x
+}
+
+fn gather(bytes: &[u8]) -> Seen
+    requires { ⌜ length (now bytes) ≡ recordSize * numbers ⌝ }
+    ensures { λ r. ⌜ Gathered (now (bytes .entry)) numbers r ⌝ }
+{
+    let mut seen = Seen {
+        objects: 0,
+        others: 0,
+        tripled: 0,
+        even: 0,
+        drivers: 1,
+        containers: 2,
+        unfit: false,
+    };
+    let mut x: usize = 0;
+    while x < NUMBERS {
+        if word(bytes, x) == 0 {
+            if group_free(bytes, x) {
+                x = free_until(bytes, x + GROUP_SIZE);
+                continue;
+            }
+        }
+        seen = with_group(bytes, x, seen);
+        if seen.unfit {
+            return seen;
+        }
+        x += GROUP_SIZE;
+    }
+    seen
+}
+
+// The records are sound. Levels whose `or` is below the count are so themselves; else each is tested.
+fn records_sound(bytes: &[u8], order: Order) -> bool
+    requires { ⌜ (length (now bytes) ≡ recordSize * numbers) × (0 < order .count) × (order .count < 128) ⌝ }
+    ensures { λ r. ⌜ r ≡ allSound order (now (bytes .entry)) numbers ⌝ }
+{
+    let seen = gather(bytes);
+    let objects = seen.objects;
+    let others = seen.others;
+    if !seen_fits(seen) {
+        return false;
+    }
+    let count = order.count as usize;
+    if levels_low(objects, count) & levels_low(others, count) {
+        return true;
+    }
+    levels_fit(bytes, count)
 }
 
 // ---- the same without sums, for an order of no level or of more than the sums can test
@@ -351,19 +522,9 @@ pub fn sound(bytes: &[u8], order: Order) -> bool
     if !core_sound(bytes, order) {
         return false;
     }
-    if !((order.count > 0) & (order.count < SUMMED)) {
-        return plain_records(bytes, order);
+    if (order.count > 0) & (order.count < SUMMED) {
+        records_sound(bytes, order)
+    } else {
+        plain_records(bytes, order)
     }
-    let mut x: usize = 0;
-    while x < NUMBERS {
-        if group_free(bytes, x) {
-            x = free_until(bytes, x + GROUP_SIZE);
-            continue;
-        }
-        if !group_sound(bytes, order, x) {
-            return false;
-        }
-        x += GROUP_SIZE;
-    }
-    true
 }

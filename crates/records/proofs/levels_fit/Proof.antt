@@ -1,22 +1,24 @@
--- Before turn k the two bits of `any` are clear where the levels of the first k records fit.
+-- Before turn x the two bits of `any` are clear where the levels of the first x records fit.
 -- Assumes nothing.
 use mathlib.Core.Path.{_≡_, refl, sym, _∙_}
-use Prim.Native.Nat.{_≤_, _-_, _+_, _*_}
+use Prim.Native.Nat.{_≤_, _-_, _*_}
 use native.Mathlib.Omega.{arith}
 use borrow.Author.Needs.{needs}
 use Rattle.bits.specs.All.{allB}
 use Rattle.bits.specs.AllLaws.{all-none, all-step}
 use Rattle.records.specs.WordLaws.{word, raised, below}
-use Rattle.records.specs.GroupLaws.{groupSize, levelsFit, or-below}
+use Rattle.records.specs.Records.{numbers}
+use Rattle.records.specs.SeenLaws.{or-below}
+use Rattle.records.specs.GroupLaws.{levelsFit}
 use Rattle.records.proofs.levels_fit.Statement.{statement}
 use Rattle.records.proofs.levels_fit.Tie as tie
 
 abbrev Inv-loop : tie.InvT-loop
-Inv-loop bytes x count rise any₀ k₀ any k =
-    (k ≤ groupSize) × (rise ≡ (0x80 - count) * 0x1_0100) × (below any ≡ allB k (λ j. below (raised count (word bytes (x + j)))))
+Inv-loop bytes count rise any₀ x₀ any x =
+    (x ≤ numbers) × (rise ≡ (0x80 - count) * 0x1_0100) × (below any ≡ allB x (λ y. below (raised count (word bytes y))))
 
 abbrev μ-loop : tie.MeasureT-loop
-μ-loop bytes x count rise any₀ k₀ any k = groupSize - k
+μ-loop bytes count rise any₀ x₀ any x = numbers - x
 
 sub-rise : tie.Need-sub-rise Inv-loop μ-loop
 sub-rise c = search needs
@@ -28,17 +30,14 @@ loop-holds : tie.Need-loop-holds Inv-loop μ-loop
 unfolding below
 loop-holds c = (omega arith, refl, sym (all-none _))
 
-add-word : tie.Need-add-word Inv-loop μ-loop
-add-word c = search needs
-
 word-requires : tie.Need-word-requires Inv-loop μ-loop
 word-requires c κs = search needs
 
 add-any : tie.Need-add-any Inv-loop μ-loop
 add-any c = search needs
 
-add-k : tie.Need-add-k Inv-loop μ-loop
-add-k c = search needs
+add-x : tie.Need-add-x Inv-loop μ-loop
+add-x c = search needs
 
 loop-less : tie.Need-loop-less Inv-loop μ-loop
 loop-less c = omega arith
@@ -50,7 +49,7 @@ loop-again c =
 returns : tie.Need-returns Inv-loop μ-loop
 unfolding levelsFit below
 returns c =
-    let e : c .before .loop .k ≡ groupSize = omega arith in
+    let e : c .before .loop .x ≡ numbers = omega arith in
     rw e at (c .before .loop .inv .2)
 
 pub levels-fit-spec : {M : Type 1} → statement M
@@ -62,10 +61,9 @@ levels-fit-spec =
     sub-rise
     mul-rise
     loop-holds
-    add-word
     word-requires
     add-any
-    add-k
+    add-x
     loop-less
     loop-again
     returns)
