@@ -57,12 +57,14 @@ static void measure_case(const struct bench_case *subject)
 static void measure_growth(void)
 {
     static const unsigned things[] = {FIRST_THINGS, 16, 32, 64, 96, 128};
-    static const unsigned levels[] = {1, 2, 4, 8, 12, 16};
+    static const unsigned levels[] = {1, 2, 3, 4, 6, 8, 12, 16};
     static const unsigned rounds[] = {0, 1, 2, 4, 8, 16, 32, 64, MOST_ROUNDS};
     for (unsigned i = 0; i < sizeof things / sizeof things[0]; i++)
         line("things", case_write, (struct plan){things[i], 4, 0});
     for (unsigned i = 0; i < sizeof levels / sizeof levels[0]; i++)
         line("levels", case_write, (struct plan){FIRST_THINGS, levels[i], 0});
+    for (unsigned i = 0; i < sizeof levels / sizeof levels[0]; i++)
+        line("full", case_write, (struct plan){TUPEHIWO_THINGS, levels[i], 0});
     for (unsigned i = 0; i < sizeof rounds / sizeof rounds[0]; i++)
         line("rounds", case_chain, (struct plan){TUPEHIWO_THINGS, 4, rounds[i]});
 }

@@ -64,6 +64,8 @@ function growth() {
     print ""
     growth_of("levels", 4, "levels (write, 3 things in use)")
     print ""
+    growth_of("full", 4, "levels (write, 128 things in use)")
+    print ""
     growth_of("rounds", 5, "rounds (spread of a chain, 128 things in use, 4 levels)")
 }
 

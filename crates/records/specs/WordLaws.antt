@@ -124,25 +124,6 @@ task-marks m =
     (λ h. let p = simp and-eq-true-iff at h in let n = eqb-false m 2 (not-true _ (p .1)) in omega (arith, ltb-true, eq-eqb))))
     (either (ltb m 2)))
 
--- ---- an object and its container
-
-module _ (bs : List ℕ) (x w : ℕ) where
-  pub in-itself : w / 0x1_0000_0000 % 0x100 ≡ x → objectFits bs x w ≡ false
-  unfolding objectFits liesIn
-  in-itself e = simp (eq-eqb (w / 0x1_0000_0000 % 0x100) x e, and-false)
-
-  pub in-no-number : numbers ≤ placeOf x (w / 0x1_0000_0000 % 0x100) → objectFits bs x w ≡ false
-  unfolding objectFits liesIn
-  in-no-number l = simp (le-ltb (placeOf x (w / 0x1_0000_0000 % 0x100)) numbers l, and-false)
-
-  pub in-number : (w / 0x1_0000_0000 % 0x100 ≡ x → ⊥)
-      → placeOf x (w / 0x1_0000_0000 % 0x100) < numbers
-      → objectFits bs x w ≡ (objectBits w && taskKind (kind bs (w / 0x100_0000 % 0x80)) && objectKind (kind bs (placeOf x (w / 0x1_0000_0000 % 0x100))))
-  unfolding objectFits liesIn
-  in-number n l = simp (ne-eqb (w / 0x1_0000_0000 % 0x100) x n, lt-ltb (placeOf x (w / 0x1_0000_0000 % 0x100)) numbers l)
-
--- ---- numbers
-
 -- of 0 to 3, three times 2 alone has bit 2
 not-two : (m : ℕ) → m < 4 → notTwo (m * 3) ≡ not (eqb m 2)
 unfolding notTwo
@@ -167,6 +148,23 @@ below-is k l r n hk hl hr hn =
 pub half-below : (bs : List ℕ) (x f : ℕ) → ((i : ℕ) → Fits w8 (getD bs i 0)) → half bs x f < 0x1_0000_0000
 unfolding half field
 half-below bs x f byte = omega (arith, byte (recordSize * x + f) .fits, byte (recordSize * x + (f + 1)) .fits, byte (recordSize * x + (f + 2)) .fits, byte (recordSize * x + (f + 3)) .fits)
+
+-- ---- an object and its container
+
+module _ (bs : List ℕ) (x w : ℕ) where
+  pub in-itself : w / 0x1_0000_0000 % 0x100 ≡ x → objectFits bs x w ≡ false
+  unfolding objectFits liesIn
+  in-itself e = simp (eq-eqb (w / 0x1_0000_0000 % 0x100) x e, and-false)
+
+  pub in-no-number : numbers ≤ placeOf x (w / 0x1_0000_0000 % 0x100) → objectFits bs x w ≡ false
+  unfolding objectFits liesIn
+  in-no-number l = simp (le-ltb (placeOf x (w / 0x1_0000_0000 % 0x100)) numbers l, and-false)
+
+  pub in-number : (w / 0x1_0000_0000 % 0x100 ≡ x → ⊥)
+      → placeOf x (w / 0x1_0000_0000 % 0x100) < numbers
+      → objectFits bs x w ≡ (objectBits w && taskKind (kind bs (w / 0x100_0000 % 0x80)) && objectKind (kind bs (placeOf x (w / 0x1_0000_0000 % 0x100))))
+  unfolding objectFits liesIn
+  in-number n l = simp (ne-eqb (w / 0x1_0000_0000 % 0x100) x n, lt-ltb (placeOf x (w / 0x1_0000_0000 % 0x100)) numbers l)
 
 -- ---- over bytes, the number says what the fields say
 

@@ -269,7 +269,7 @@ fn with_object(bytes: &[u8], x: usize, w: usize, seen: Seen) -> Seen
     ensures { λ r. ⌜ Sees (objectFits (now (bytes .entry)) x w) w seen r ⌝ }
 {
     let container = w / 0x1_0000_0000 % 0x100;
-    if container == x {
+    if x == container {
         return unfit();
     }
     let place = place_of(x, container);

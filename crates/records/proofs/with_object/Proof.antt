@@ -6,7 +6,7 @@ use Rattle.records.proofs.with_object.Statement.{statement}
 use Rattle.records.proofs.with_object.Tie as tie
 
 returns : tie.Need-returns
-returns c = rw (in-itself _ _ _ (c .before .if1 .taken)) (with-unfit _ _ _ (c .unfit .ensures))
+returns c = rw (in-itself _ _ _ (sym (c .before .if1 .taken))) (with-unfit _ _ _ (c .unfit .ensures))
 
 returns-2 : tie.Need-returns-2
 returns-2 c =
@@ -23,7 +23,7 @@ returns-3 c =
     let k = c .before .before in
     let p = k .before .before .before .before in
     rw (
-      in-number _ _ _ (p .before .if1 .left) (rw (p .place-of .ensures) at (k .before .before .before .if2 .left)),
+      in-number _ _ _ (λ e. p .before .if1 .left (sym e)) (rw (p .place-of .ensures) at (k .before .before .before .if2 .left)),
       sym (p .place-of .ensures),
       sym (k .kind-at2 .ensures),
       sym (k .before .kind-at .ensures),
