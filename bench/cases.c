@@ -76,11 +76,12 @@ static void build_unfit(struct item *item, const struct plan *plan)
     item->verdict = TUPEHIWO_NUMBER;
 }
 
-/* The last spare byte of the last record is not zero. */
+/* The last spare byte of a record is not zero. */
 static void build_unsound(struct item *item, const struct plan *plan)
 {
+    unsigned record = plan->unsound != 0 ? plan->unsound : TUPEHIWO_THINGS - 1;
     access(item, plan, TUPEHIWO_CODE_WRITE);
-    item->world.m.bytes[TUPEHIWO_BYTES - 1] = 1;
+    item->world.m.bytes[8 * record + 7] = 1;
     item->verdict = TUPEHIWO_STATE;
 }
 
@@ -223,7 +224,8 @@ const struct bench_case cases[] = {
 };
 
 const unsigned case_count = sizeof cases / sizeof cases[0];
-const struct bench_case *const case_write = &cases[1], *const case_chain = &cases[11];
+const struct bench_case *const case_write = &cases[1], *const case_unsound = &cases[5],
+                               *const case_chain = &cases[11];
 
 void build_item(struct item *item, const struct bench_case *subject, const struct plan *plan,
                 uint64_t seed)

@@ -7,6 +7,7 @@
 /* The parts of one measurement that its table varies. */
 struct plan {
     unsigned things, levels, rounds;
+    unsigned unsound; /* the record that is, where one is; 0 for the last */
 };
 
 /* A state, and what is asked on it: requests, or a report if there is none. */
@@ -31,7 +32,7 @@ extern const struct bench_case cases[];
 extern const unsigned case_count;
 
 /* The cases that the growth of the cost is shown with. */
-extern const struct bench_case *const case_write, *const case_chain;
+extern const struct bench_case *const case_write, *const case_unsound, *const case_chain;
 
 void build_item(struct item *item, const struct bench_case *subject, const struct plan *plan,
                 uint64_t seed);

@@ -5,8 +5,9 @@
  *   harness once           only holds them against each other, for a counter of instructions
  *   harness script LINES   prints a script for the script programs
  *
- * One line for each measurement: table, case, things in use, levels, rounds, and
- * the times of plain C and of the proved library in nanoseconds for each item.
+ * One line for each measurement: table, case, things in use, levels, rounds (or
+ * the unsound record), and the times of plain C and of the proved library in
+ * nanoseconds for each item.
  */
 #include <stdio.h>
 #include <stdlib.h>
@@ -28,7 +29,7 @@ static void line(const char *table, const struct bench_case *subject, struct pla
         return;
     }
     printf("%-8s %-34s %4u %3u %4u", table, subject->name, plan.things, plan.levels,
-           rounds_of_first());
+           plan.unsound != 0 ? plan.unsound : rounds_of_first());
     if (effort.runs != 0) {
         struct times times = measure(items, effort);
         printf(" %9.1f %9.1f", times.best[PLAIN], times.best[PROVED]);
@@ -48,7 +49,7 @@ static void measure_case(const struct bench_case *subject)
         if (t > 0 && things[t] <= subject->fewest)
             continue;
         for (unsigned l = 0; l < 3; l++) {
-            struct plan plan = {things[t], levels[l], subject == case_chain ? MOST_ROUNDS : 0};
+            struct plan plan = {things[t], levels[l], subject == case_chain ? MOST_ROUNDS : 0, 0};
             line("cases", subject, plan);
         }
     }
@@ -58,15 +59,18 @@ static void measure_growth(void)
 {
     static const unsigned things[] = {FIRST_THINGS, 16, 32, 64, 96, 128};
     static const unsigned levels[] = {1, 2, 3, 4, 6, 8, 12, 16};
+    static const unsigned records[] = {1, 32, 64, 96, 127};
     static const unsigned rounds[] = {0, 1, 2, 4, 8, 16, 32, 64, MOST_ROUNDS};
     for (unsigned i = 0; i < sizeof things / sizeof things[0]; i++)
-        line("things", case_write, (struct plan){things[i], 4, 0});
+        line("things", case_write, (struct plan){things[i], 4, 0, 0});
     for (unsigned i = 0; i < sizeof levels / sizeof levels[0]; i++)
-        line("levels", case_write, (struct plan){FIRST_THINGS, levels[i], 0});
+        line("levels", case_write, (struct plan){FIRST_THINGS, levels[i], 0, 0});
     for (unsigned i = 0; i < sizeof levels / sizeof levels[0]; i++)
-        line("full", case_write, (struct plan){TUPEHIWO_THINGS, levels[i], 0});
+        line("full", case_write, (struct plan){TUPEHIWO_THINGS, levels[i], 0, 0});
+    for (unsigned i = 0; i < sizeof records / sizeof records[0]; i++)
+        line("unsound", case_unsound, (struct plan){TUPEHIWO_THINGS, 4, 0, records[i]});
     for (unsigned i = 0; i < sizeof rounds / sizeof rounds[0]; i++)
-        line("rounds", case_chain, (struct plan){TUPEHIWO_THINGS, 4, rounds[i]});
+        line("rounds", case_chain, (struct plan){TUPEHIWO_THINGS, 4, rounds[i], 0});
 }
 
 static int usage(void)

@@ -66,6 +66,8 @@ function growth() {
     print ""
     growth_of("full", 4, "levels (write, 128 things in use)")
     print ""
+    growth_of("unsound", 5, "unsound record (refusal with 2, 128 things in use, 4 levels)")
+    print ""
     growth_of("rounds", 5, "rounds (spread of a chain, 128 things in use, 4 levels)")
 }
 

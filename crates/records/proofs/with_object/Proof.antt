@@ -6,7 +6,9 @@ use Rattle.records.proofs.with_object.Statement.{statement}
 use Rattle.records.proofs.with_object.Tie as tie
 
 returns : tie.Need-returns
-returns c = rw (in-itself _ _ _ (sym (c .before .if1 .taken))) (with-unfit _ _ _ (c .unfit .ensures))
+returns c =
+    let a = c .before .before .before .args in
+    rw (in-itself (a .bytes .now) (a .x) (a .w) (sym (c .before .if1 .taken))) (with-unfit _ _ _ (c .unfit .ensures))
 
 returns-2 : tie.Need-returns-2
 returns-2 c =
