@@ -173,28 +173,8 @@ fn kind_at(bytes: &[u8], x: usize) -> u8
     bytes[i]
 }
 
-// An object's container is the root sign or another object.
-fn container_sound(bytes: &[u8], x: usize, container: usize) -> bool
-    requires { ⌜ length (now bytes) ≡ recordSize * numbers ⌝ }
-    ensures { λ r. ⌜ r ≡ containerFits (now (bytes .entry)) x container ⌝ }
-{
-    if container == ROOT_SIGN as usize {
-        return true;
-    }
-    if container == x {
-        return false;
-    }
-    if container < NUMBERS {
-        kind_at(bytes, container) == OBJECT
-    } else {
-        false
-    }
-}
-
-// ---- All records are passed by once. What a test looks at is gathered by `or` and `and`, so that one test at the end is that
-// of each record, and few branches are left whose way depends on it.
-
-// What the records passed by have shown.
+// What all records passed by have shown, gathered by `or` and by `and`: one test of it at the end is the test of each record, so
+// that few branches hang on what a record holds.
 struct Seen {
     // The objects' records, and all others.
     objects: usize,
@@ -202,7 +182,7 @@ struct Seen {
     // Of the others: three times the marks, and those that are even.
     tripled: usize,
     even: usize,
-    // The kinds of the objects' drivers and of their containers.
+    // By `and`: the kinds of the objects' drivers, and of their containers.
     drivers: u8,
     containers: u8,
     // An object lies in itself, or in no number.
@@ -249,6 +229,7 @@ fn if_even(w: usize) -> usize
     if w % 2 == 0 { w } else { 0 }
 }
 
+// After an unfit object nothing else matters.
 fn unfit() -> Seen
     ensures { λ r. ⌜ r .unfit ≡ true ⌝ }
 {
@@ -290,7 +271,7 @@ fn with_object(bytes: &[u8], x: usize, w: usize, seen: Seen) -> Seen
     }
 }
 
-// With a record w that is no object's. Three times the marks has bit 2 where they are 2, the one number to 3 that they are not.
+// With a record w that is no object's. Marks of 2 are unsound: three times 2 has bit 2, three times 0, 1 and 3 has not.
 fn with_other(w: usize, seen: Seen) -> Seen
     ensures { λ r. ⌜ Sees (otherFits w) w seen r ⌝ }
 {
@@ -308,6 +289,7 @@ fn with_other(w: usize, seen: Seen) -> Seen
     }
 }
 
+// With the record of x.
 fn with_record(bytes: &[u8], x: usize, seen: Seen) -> Seen
     requires { ⌜ (length (now bytes) ≡ recordSize * numbers) × (x < numbers) ⌝ }
     ensures { λ r. ⌜ Sees (wordFits (now (bytes .entry)) x) (word (now (bytes .entry)) x) seen r ⌝ }
@@ -421,6 +403,7 @@ fn free_until(bytes: &[u8], from: usize) -> usize
     x
 }
 
+// What all records show. Where a group begins with a free record, free groups are passed over.
 fn gather(bytes: &[u8]) -> Seen
     requires { ⌜ length (now bytes) ≡ recordSize * numbers ⌝ }
     ensures { λ r. ⌜ Gathered (now (bytes .entry)) numbers r ⌝ }
@@ -470,6 +453,24 @@ fn records_sound(bytes: &[u8], order: Order) -> bool
 }
 
 // ---- the same without sums, for an order of no level or of more than the sums can test
+
+// An object's container is the root sign or another object.
+fn container_sound(bytes: &[u8], x: usize, container: usize) -> bool
+    requires { ⌜ length (now bytes) ≡ recordSize * numbers ⌝ }
+    ensures { λ r. ⌜ r ≡ containerFits (now (bytes .entry)) x container ⌝ }
+{
+    if container == ROOT_SIGN as usize {
+        return true;
+    }
+    if container == x {
+        return false;
+    }
+    if container < NUMBERS {
+        kind_at(bytes, container) == OBJECT
+    } else {
+        false
+    }
+}
 
 // The record of x is sound, field by field. The spare bytes stand above the marks.
 fn plain_record(bytes: &[u8], order: Order, x: usize) -> bool
