@@ -5,10 +5,10 @@ use mathlib.Core.Logic.{_⊎_, inl, inr, ⊎-elim}
 use mathlib.Core.Bool.{Bool, true, false, not, _&&_, _||_, true≢false, and-eq-true-iff}
 use mathlib.Core.List.{List}
 use Prim.Native.Nat.{ℕ, zero, suc, _+_, _-_, _/_, _%_, _^_, _≤_, _<_}
-use native.Mathlib.Nat.{lt-of-not-le, not-suc-le-zero}
+use native.Mathlib.Nat.{lt-of-not-le, not-suc-le-zero, one-mul}
 use native.Mathlib.Omega.{arith}
-use lib.Bits.{bitAnd, bitOr, or-lt, or-add-and, and-le-l, and-le-r}
-use lib.Count.{trailingZeros}
+use lib.Bits.{bitAnd, bitOr, or-lt, or-add-and, or-shifted-r, and-le-l, and-le-r}
+use lib.Count.{trailingZeros, leadingZeros, leading-top}
 use lib.Dec.{ltb, eqb}
 use lib.ListN.{getD}
 use lib.Pow.{pow-lt, shr-shr, shr-le}
@@ -16,13 +16,32 @@ use borrow.Author.Tests.{ltb-true, lt-ltb, leb-true, le-leb, eqb-true, eqb-false
 use Rattle.bits.specs.Bit.{bit}
 use Rattle.bits.specs.BitLaws.{bit-and, bit-or, bit-not, bit-pow, bit-zero, bit-below, bit-ext, bit-rest, trailing-set, trailing-lt}
 use Rattle.bits.specs.All.{allB, _⇒_}
-use Rattle.bits.specs.AllLaws.{and-i, and-l, and-r, and-false, either, both-ways, not-so, implies, implied, all-at, all-i, all-fails, or-l, or-r}
+use Rattle.bits.specs.AllLaws.{and-i, and-l, and-r, and-false, and-true, or-false, or-true, either, both-ways, not-so, implies, implied, all-at, all-i, all-fails, or-l, or-r, or-cases}
 use Rattle.levels.specs.declared.Order.{Order}
 use Rattle.levels.specs.Order.{mostLevels, related, inOrder, atOrBelow, countFits, reflexive, transitive, antisymmetric, belowTop, clearOutside, orderPasses}
 use Rattle.levels.specs.OrderLaws.{IsOrder, is-order, both-in, at-i, at-related}
 use Rattle.levels.specs.OrderRows.{RowsFit, within, closed, Covered, AllCovered, Passed, above, rowFits, levelPasses, LevelCovered, restEmpty, rowsPass}
 
 -- ---- bits
+
+-- the highest bit, and those below it
+top-bit : (w b c : ℕ) → 2 ^ b ≤ w → w < 2 ^ suc b → bit w c ≡ (bit (w - 2 ^ b) c || eqb c b)
+top-bit w b c l h =
+    let e : w ≡ bitOr (w - 2 ^ b) (2 ^ b) = sym (ap (bitOr (w - 2 ^ b)) (sym (one-mul (2 ^ b))) ∙ or-shifted-r 1 b (w - 2 ^ b) (omega arith) ∙ omega arith) in
+    ap (λ (x : ℕ). bit x c) e ∙ bit-or (w - 2 ^ b) (2 ^ b) c ∙ rw (bit-pow b c)
+
+-- where it is
+pub top-below : (w : ℕ) → 0 < w → w < 2 ^ 16 → leadingZeros 16 w ≤ 15
+top-below w some h = omega (arith, leading-top 16 w some h .1)
+
+pub top-place : (w : ℕ) → 0 < w → w < 2 ^ 16 → (2 ^ (15 - leadingZeros 16 w) ≤ w) × (w < 2 ^ suc (15 - leadingZeros 16 w))
+top-place w some h =
+    let t = leading-top 16 w some h in
+    let e : 15 - leadingZeros 16 w ≡ t .0 = omega (arith, t .1) in
+    rw e (t .2, t .3)
+
+pub top-less : (w m : ℕ) → 0 < w → w < 2 ^ 16 → bitAnd (w - 2 ^ (15 - leadingZeros 16 w)) m < w
+top-less w m some h = omega (arith, top-place w some h, and-le-l (w - 2 ^ (15 - leadingZeros 16 w)) m)
 
 bit-shift : (w k i : ℕ) → bit (w / 2 ^ k) i ≡ bit w (k + i)
 unfolding bit
@@ -120,27 +139,46 @@ module _ (rows : List ℕ) (w : ℕ) where
         go c q (inl u) = inr (inr (b, p, e, u))
         go c q (inr u) = inl (bit-and left ((2 ^ 16 - 1) - row) c ∙ rw (q, bit-not 16 row c h (bit-below 16 left c (s .fits) q), u))
 
+    -- b is of w, and is left out of the rest once its row is within w
+    pub passed-fails : (b : ℕ) → bit left b ≡ true → within rows w b ≡ false → closed rows w ≡ false
+    unfolding closed
+    passed-fails b p e = all-fails mostLevels _ b (bit-below 16 left b (s .fits) p) (rw (s .of-w b p, e))
+
+    passed-one : (b rest : ℕ) → within rows w b ≡ true → rest < 2 ^ 16 → ((c : ℕ) → bit left c ≡ (bit rest c || eqb c b)) → Passed rows w rest
+    unfolding Covered
+    passed-one b rest e f g =
+        record {
+          fits = f;
+          of-w = λ c p. s .of-w c (g c ∙ or-l (bit rest c) (eqb c b) p);
+          done = λ c p. ⊎-elim
+              (λ q. ⊎-elim inl (λ t. inr (inl (ap (within rows w) (eqb-true c b t) ∙ e))) (or-cases (bit rest c) (eqb c b) (sym (g c) ∙ q)))
+              inr
+              (s .done c p);
+        }
+
     module _ (some : 0 < left) where
-      pub lowest-in : bit w (trailingZeros 16 left) ≡ true
-      lowest-in = s .of-w _ (trailing-set 16 left (s .fits) some)
+      pub lowest-in : bit left (trailingZeros 16 left) ≡ true
+      lowest-in = trailing-set 16 left (s .fits) some
 
-      pub passed-fails : within rows w (trailingZeros 16 left) ≡ false → closed rows w ≡ false
-      unfolding closed
-      passed-fails e = all-fails mostLevels _ (trailingZeros 16 left) (trailing-lt 16 left (s .fits) some) (rw (lowest-in, e))
-
-      pub passed-more : within rows w (trailingZeros 16 left) ≡ true → Passed rows w (bitAnd left (left - 1))
-      unfolding Covered
-      passed-more e =
-          record {
-            fits = omega (arith, rest-less left some, s .fits);
-            of-w = λ c p. s .of-w c (and-l (bit left c) _ (sym (bit-rest 16 left c (s .fits) some) ∙ p));
-            done = λ c p. ⊎-elim (λ q. go c q (either (eqb c (trailingZeros 16 left)))) inr (s .done c p);
-          }
+      pub without-lowest : within rows w (trailingZeros 16 left) ≡ true → Passed rows w (bitAnd left (left - 1))
+      without-lowest e = passed-one (trailingZeros 16 left) (bitAnd left (left - 1)) e (omega (arith, rest-less left some, s .fits)) split
         where
-          go : (c : ℕ) → bit left c ≡ true → (eqb c (trailingZeros 16 left) ≡ true) ⊎ (eqb c (trailingZeros 16 left) ≡ false)
-              → (bit (bitAnd left (left - 1)) c ≡ true) ⊎ Covered rows w c
-          go c q (inl t) = inr (inl (ap (within rows w) (eqb-true c _ t) ∙ e))
-          go c q (inr t) = inl (rw (bit-rest 16 left c (s .fits) some, q, t))
+          split : (c : ℕ) → bit left c ≡ (bit (bitAnd left (left - 1)) c || eqb c (trailingZeros 16 left))
+          split c = ⊎-elim
+              (λ (t : eqb c (trailingZeros 16 left) ≡ true). simp (t, or-true) (ap (bit left) (eqb-true c _ t) ∙ lowest-in))
+              (λ (t : eqb c (trailingZeros 16 left) ≡ false). simp (bit-rest 16 left c (s .fits) some, t, and-true, or-false))
+              (either (eqb c (trailingZeros 16 left)))
+
+      pub highest-in : bit left (15 - leadingZeros 16 left) ≡ true
+      highest-in =
+          let p = top-place left some (s .fits) in
+          let b = 15 - leadingZeros 16 left in
+          top-bit left b b (p .0) (p .1) ∙ simp (eq-eqb b b refl, or-true)
+
+      pub without-highest : within rows w (15 - leadingZeros 16 left) ≡ true → Passed rows w (left - 2 ^ (15 - leadingZeros 16 left))
+      without-highest e =
+          let p = top-place left some (s .fits) in
+          passed-one (15 - leadingZeros 16 left) (left - 2 ^ (15 - leadingZeros 16 left)) e (omega (arith, s .fits)) (λ c. top-bit left (15 - leadingZeros 16 left) c (p .0) (p .1))
 
 -- ---- where all levels are covered, what is above each is closed
 

@@ -28,24 +28,27 @@ pub fn at_or_below(order: Order, a: u16, b: u16) -> bool
     }
 }
 
-// Each level left has its row within `set`. The others of the set are covered.
+// Each level of the rest has its row within `set`, where those in a row found within are passed over, the highest first: on a
+// line numbered from the top down its row has all others.
 fn rest_closed(rows: &[u16; 16], set: u16, rest: u16) -> bool
-    requires { ⌜ Passed (now rows) set rest ⌝ }
+    requires { ⌜ RowsFit (now rows) × Passed (now rows) set rest ⌝ }
     ensures { λ r. ⌜ (r ≡ true → AllCovered (now (rows .entry)) set) × (r ≡ false → closed (now (rows .entry)) set ≡ false) ⌝ }
 {
     let mut left = rest;
     while left != 0 {
-        let b = u16::trailing_zeros(left) as usize;
-        if rows[b] | set != set {
+        let b = 15 - u16::leading_zeros(left);
+        let row = rows[b as usize];
+        if row | set != set {
             return false;
         }
-        left = left & (left - 1);
+        left = (left - (1u16 << b)) & !row;
     }
     true
 }
 
-// Each level of `set` has its row within `set`, where those in the row of the lowest are passed over: they have their own
-// test, which shows what is passed over here, so all levels together miss nothing.
+// Each level of `set` has its row within `set`, where those in a row found within are passed over: they have their own test,
+// which shows what is passed over here, so all levels together miss nothing. The lowest comes first: on a line numbered upwards
+// its row has all others.
 fn is_closed(rows: &[u16; 16], set: u16) -> bool
     requires { ⌜ RowsFit (now rows) ⌝ }
     ensures { λ r. ⌜ (r ≡ true → AllCovered (now (rows .entry)) set) × (r ≡ false → closed (now (rows .entry)) set ≡ false) ⌝ }

@@ -4,7 +4,7 @@ use borrow.Author.Needs.{needs}
 use borrow.Author.Tests.{eq-eqb, ne-eqb}
 use Rattle.bits.specs.BitLaws.{trailing-lt}
 use Rattle.levels.specs.OrderRows.{within}
-use Rattle.levels.specs.OrderRowsLaws.{passed-none, passed-all, passed-fails, passed-more, passed-over, lowest-in}
+use Rattle.levels.specs.OrderRowsLaws.{passed-none, passed-all, passed-fails, passed-over, lowest-in, without-lowest}
 use Rattle.levels.proofs.is_closed.Statement.{statement}
 use Rattle.levels.proofs.is_closed.Tie as tie
 
@@ -24,7 +24,7 @@ returns-2 : tie.Need-returns-2
 unfolding within
 returns-2 c =
     let all = passed-none (c .before .before .before .args .rows .now) _ (c .before .before .before .fits .set .fits) in
-    (λ e. absurd (false≢true e), λ e. passed-fails _ _ _ all (omega arith) (ne-eqb _ _ (c .if2 .taken)))
+    (λ e. absurd (false≢true e), λ e. passed-fails _ _ _ all _ (lowest-in _ _ _ all (omega arith)) (ne-eqb _ _ (c .if2 .taken)))
 
 rest-closed-requires : tie.Need-rest-closed-requires
 unfolding within
@@ -32,7 +32,7 @@ rest-closed-requires c κs =
     let a = c .before .before .before in
     let all = passed-none (a .args .rows .now) _ (a .fits .set .fits) in
     let e = eq-eqb _ _ (c .if2 .left) in
-    passed-over _ _ _ (passed-more _ _ _ all (omega arith) e) _ (lowest-in _ _ _ all (omega arith)) (a .pre _) e
+    (a .pre, passed-over _ _ _ (without-lowest _ _ _ all (omega arith) e) _ (lowest-in _ _ _ all (omega arith)) (a .pre _) e)
 
 pub is-closed-spec : {M : Type 1} → statement M
 is-closed-spec =

@@ -1,9 +1,13 @@
+-- Before each turn the levels of the set that are not left are covered.
+-- Assumes nothing.
 use mathlib.Core.Bool.{true≢false, false≢true}
+use Prim.Native.Nat.{_-_}
 use native.Mathlib.Omega.{arith}
+use lib.Count.{leadingZeros}
 use borrow.Author.Tests.{eq-eqb, ne-eqb}
-use Rattle.bits.specs.BitLaws.{trailing-lt}
+use Rattle.bits.specs.BitLaws.{one-shl}
 use Rattle.levels.specs.OrderRows.{within, Passed}
-use Rattle.levels.specs.OrderRowsLaws.{passed-all, passed-fails, passed-more, rest-less}
+use Rattle.levels.specs.OrderRowsLaws.{passed-all, passed-fails, passed-over, highest-in, without-highest, top-below, top-place, top-less}
 use Rattle.levels.proofs.rest_closed.Statement.{statement}
 use Rattle.levels.proofs.rest_closed.Tie as tie
 
@@ -14,27 +18,34 @@ abbrev μ-loop : tie.MeasureT-loop
 μ-loop rows set rest left₀ left = left
 
 loop-holds : tie.Need-loop-holds Inv-loop μ-loop
-loop-holds c = c .pre
+loop-holds c = c .pre .1
 
-cast-b : tie.Need-cast-b Inv-loop μ-loop
-cast-b c = omega (arith, trailing-lt 16 _ (c .before .loop .inv .fits) (omega arith))
-
-mul-if1 : tie.Need-mul-if1 Inv-loop μ-loop
-mul-if1 c = omega (arith, trailing-lt 16 _ (c .before .loop .inv .fits) (omega arith))
-
-element-copy-out-if1 : tie.Need-element-copy-out-if1 Inv-loop μ-loop
-element-copy-out-if1 c = trailing-lt 16 _ (c .before .loop .inv .fits) (omega arith)
+sub-b : tie.Need-sub-b Inv-loop μ-loop
+sub-b c = top-below _ (omega arith) (c .before .loop .inv .fits)
 
 returns : tie.Need-returns Inv-loop μ-loop
 unfolding within
-returns c = (λ e. absurd (false≢true e), λ e. passed-fails _ _ _ (c .before .before .before .loop .inv) (omega arith) (ne-eqb _ _ (c .if1 .taken)))
+returns c =
+    let l = c .before .before .before .loop in
+    (λ e. absurd (false≢true e), λ e. passed-fails _ _ _ (l .inv) _ (highest-in _ _ _ (l .inv) (omega arith)) (ne-eqb _ _ (c .if1 .taken)))
+
+sub-left : tie.Need-sub-left Inv-loop μ-loop
+sub-left c =
+    let l = c .before .before .before .loop in
+    rw (one-shl 16 (15 - leadingZeros 16 (l .left)) (omega arith)) (top-place (l .left) (omega arith) (l .inv .fits) .0)
 
 loop-less : tie.Need-loop-less Inv-loop μ-loop
-loop-less c = rest-less _ (omega arith)
+loop-less c =
+    let l = c .before .before .before .loop in
+    rw (one-shl 16 (15 - leadingZeros 16 (l .left)) (omega arith)) (top-less (l .left) _ (omega arith) (l .inv .fits))
 
 loop-again : tie.Need-loop-again Inv-loop μ-loop
 unfolding within
-loop-again c = passed-more _ _ _ (c .before .before .before .loop .inv) (omega arith) (eq-eqb _ _ (c .if1 .left))
+loop-again c =
+    let l = c .before .before .before .loop in
+    let e = eq-eqb _ _ (c .if1 .left) in
+    rw (one-shl 16 (15 - leadingZeros 16 (l .left)) (omega arith))
+    (passed-over _ _ _ (without-highest _ _ _ (l .inv) (omega arith) e) _ (l .inv .of-w _ (highest-in _ _ _ (l .inv) (omega arith))) (c .before .before .before .before .pre .0 _) e)
 
 returns-2 : tie.Need-returns-2 Inv-loop μ-loop
 returns-2 c = (λ e. passed-all _ _ (rw (c .loop-test .left) at (c .before .loop .inv)), λ e. absurd (true≢false e))
@@ -46,11 +57,14 @@ rest-closed-spec =
     Inv-loop
     μ-loop
     loop-holds
-    cast-b
-    mul-if1
-    element-copy-out-if1
+    sub-b
+    (λ c. omega arith)
+    (λ c. omega arith)
+    (λ c. omega arith)
     returns
     (λ c. omega arith)
+    (λ c. omega arith)
+    sub-left
     loop-less
     loop-again
     returns-2)
