@@ -14,7 +14,7 @@ use lib.ListN.{getD}
 use lib.Pow.{pow-lt, shr-shr, shr-le}
 use borrow.Author.Tests.{ltb-true, lt-ltb, leb-true, le-leb, eqb-true, eqb-false, eq-eqb, ltb-false, not-true}
 use Rattle.bits.specs.Bit.{bit}
-use Rattle.bits.specs.BitLaws.{bit-and, bit-or, bit-not, bit-pow, bit-zero, bit-below, bit-ext, bit-rest, trailing-set, trailing-lt}
+use Rattle.bits.specs.BitLaws.{bit-and, bit-or, bit-not, bit-pow, bit-zero, bit-below, bit-ext, bit-rest, trailing-set}
 use Rattle.bits.specs.All.{allB, _⇒_}
 use Rattle.bits.specs.AllLaws.{and-i, and-l, and-r, and-false, and-true, or-false, or-true, either, both-ways, not-so, implies, implied, all-at, all-i, all-fails, or-l, or-r, or-cases}
 use Rattle.levels.specs.declared.Order.{Order}
