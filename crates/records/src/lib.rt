@@ -289,7 +289,7 @@ fn with_other(w: usize, seen: Seen) -> Seen
     }
 }
 
-// With the record of x.
+// With the record of x, which is an object's where its kind is 2.
 fn with_record(bytes: &[u8], x: usize, seen: Seen) -> Seen
     requires { ⌜ (length (now bytes) ≡ recordSize * numbers) × (x < numbers) ⌝ }
     ensures { λ r. ⌜ Sees (wordFits (now (bytes .entry)) x) (word (now (bytes .entry)) x) seen r ⌝ }
