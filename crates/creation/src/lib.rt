@@ -4,7 +4,8 @@ ghost use mathlib.Core.Bool.{true};
 ghost use lib.ListN.{length};
 ghost use Rattle.levels.specs.Order.{orderPasses};
 ghost use Rattle.model.specs.State.{memory};
-ghost use Rattle.model.specs.Events.{left, outcome, execute, create, createRoot};
+ghost use Rattle.model.specs.Events as model;
+ghost use Rattle.model.specs.Events.{left, outcome};
 
 mod effects;
 mod judge;
@@ -24,7 +25,7 @@ pub fn execute(
     read_level: u16,
 ) -> u8
     requires { ⌜ (length (now bytes) ≡ 1024) × (length (now words) ≡ 768) × (orderPasses order ≡ true) ⌝ }
-    ensures { λ r. ⌜ left r 0 (now (bytes .exit)) (now (words .exit)) ≡ outcome (memory (now (bytes .entry)) (now (words .entry))) (execute order (memory (now (bytes .entry)) (now (words .entry))) creator image new level «read_level») ⌝ }
+    ensures { λ r. ⌜ left r 0 (now (bytes .exit)) (now (words .exit)) ≡ outcome (memory (now (bytes .entry)) (now (words .entry))) (model.execute order (memory (now (bytes .entry)) (now (words .entry))) creator image new level «read_level») ⌝ }
 {
     let judged = judge::execute(bytes, order, creator, image, new, level, read_level);
     if judged.verdict <= SLIPPED {
@@ -44,7 +45,7 @@ pub fn create(
     level: u16,
 ) -> u8
     requires { ⌜ (length (now bytes) ≡ 1024) × (length (now words) ≡ 768) × (orderPasses order ≡ true) ⌝ }
-    ensures { λ r. ⌜ left r 0 (now (bytes .exit)) (now (words .exit)) ≡ outcome (memory (now (bytes .entry)) (now (words .entry))) (create order (memory (now (bytes .entry)) (now (words .entry))) creator driver new container level) ⌝ }
+    ensures { λ r. ⌜ left r 0 (now (bytes .exit)) (now (words .exit)) ≡ outcome (memory (now (bytes .entry)) (now (words .entry))) (model.create order (memory (now (bytes .entry)) (now (words .entry))) creator driver new container level) ⌝ }
 {
     let judged = judge::create(bytes, words, order, creator, driver, new, container, level);
     if judged.verdict <= SLIPPED {
@@ -63,7 +64,7 @@ pub fn create_root(
     level: u16,
 ) -> u8
     requires { ⌜ (length (now bytes) ≡ 1024) × (length (now words) ≡ 768) × (orderPasses order ≡ true) ⌝ }
-    ensures { λ r. ⌜ left r 0 (now (bytes .exit)) (now (words .exit)) ≡ outcome (memory (now (bytes .entry)) (now (words .entry))) (createRoot order (memory (now (bytes .entry)) (now (words .entry))) creator driver new level) ⌝ }
+    ensures { λ r. ⌜ left r 0 (now (bytes .exit)) (now (words .exit)) ≡ outcome (memory (now (bytes .entry)) (now (words .entry))) (model.createRoot order (memory (now (bytes .entry)) (now (words .entry))) creator driver new level) ⌝ }
 {
     let judged = judge::create_root(bytes, order, creator, driver, new, level);
     if judged.verdict <= SLIPPED {

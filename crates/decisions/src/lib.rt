@@ -1,6 +1,6 @@
 // What the level tests and the marks of an event settle, from yes-or-no facts alone.
 ghost use mathlib.Core.Path.{_≡_};
-ghost use Rattle.model.specs.Events.{unless};
+ghost use Rattle.model.specs.Events as model;
 ghost use Rattle.decisions.specs.Decisions.{readDecision, writeDecision, moveDecision, deleteDecision, callDecision, invokeDecision, relayDecision, apart};
 
 pub mod effects;
@@ -19,7 +19,7 @@ pub struct Decision {
 }
 
 pub fn unless(ok: bool, row: u8, rest: u8) -> u8
-    ensures { λ r. ⌜ r ≡ unless ok row rest ⌝ }
+    ensures { λ r. ⌜ r ≡ model.unless ok row rest ⌝ }
 {
     if ok { rest } else { row }
 }

@@ -4,7 +4,8 @@ ghost use mathlib.Core.Bool.{true};
 ghost use lib.ListN.{length};
 ghost use Rattle.levels.specs.Order.{orderPasses};
 ghost use Rattle.model.specs.State.{memory};
-ghost use Rattle.model.specs.Events.{left, outcome, read, write, move, delete};
+ghost use Rattle.model.specs.Events as model;
+ghost use Rattle.model.specs.Events.{left, outcome};
 
 mod effects;
 mod judge;
@@ -24,7 +25,7 @@ pub fn read(
     object: u16,
 ) -> u8
     requires { ⌜ (length (now bytes) ≡ 1024) × (length (now words) ≡ 768) × (orderPasses order ≡ true) ⌝ }
-    ensures { λ r. ⌜ left r 0 (now (bytes .entry)) (now (words .exit)) ≡ outcome (memory (now (bytes .entry)) (now (words .entry))) (read order (memory (now (bytes .entry)) (now (words .entry))) task driver object) ⌝ }
+    ensures { λ r. ⌜ left r 0 (now (bytes .entry)) (now (words .exit)) ≡ outcome (memory (now (bytes .entry)) (now (words .entry))) (model.read order (memory (now (bytes .entry)) (now (words .entry))) task driver object) ⌝ }
 {
     if !are_named(bytes, task, driver, object) {
         return NUMBER;
@@ -45,7 +46,7 @@ pub fn write(
     object: u16,
 ) -> u8
     requires { ⌜ (length (now bytes) ≡ 1024) × (length (now words) ≡ 768) × (orderPasses order ≡ true) ⌝ }
-    ensures { λ r. ⌜ left r 0 (now (bytes .entry)) (now (words .exit)) ≡ outcome (memory (now (bytes .entry)) (now (words .entry))) (write order (memory (now (bytes .entry)) (now (words .entry))) task driver object) ⌝ }
+    ensures { λ r. ⌜ left r 0 (now (bytes .entry)) (now (words .exit)) ≡ outcome (memory (now (bytes .entry)) (now (words .entry))) (model.write order (memory (now (bytes .entry)) (now (words .entry))) task driver object) ⌝ }
 {
     if !are_named(bytes, task, driver, object) {
         return NUMBER;
@@ -68,7 +69,7 @@ pub fn move_object(
     to: u16,
 ) -> u8
     requires { ⌜ (length (now bytes) ≡ 1024) × (length (now words) ≡ 768) × (orderPasses order ≡ true) ⌝ }
-    ensures { λ r. ⌜ left r 0 (now (bytes .exit)) (now (words .exit)) ≡ outcome (memory (now (bytes .entry)) (now (words .entry))) (move order (memory (now (bytes .entry)) (now (words .entry))) task driver object from to) ⌝ }
+    ensures { λ r. ⌜ left r 0 (now (bytes .exit)) (now (words .exit)) ≡ outcome (memory (now (bytes .entry)) (now (words .entry))) (model.move order (memory (now (bytes .entry)) (now (words .entry))) task driver object from to) ⌝ }
 {
     let judged = judge::move_object(bytes, words, order, task, driver, object, from, to);
     if judged.verdict <= SLIPPED {
@@ -87,7 +88,7 @@ pub fn delete(
     container: u16,
 ) -> u8
     requires { ⌜ (length (now bytes) ≡ 1024) × (length (now words) ≡ 768) × (orderPasses order ≡ true) ⌝ }
-    ensures { λ r. ⌜ left r 0 (now (bytes .exit)) (now (words .exit)) ≡ outcome (memory (now (bytes .entry)) (now (words .entry))) (delete order (memory (now (bytes .entry)) (now (words .entry))) task driver object container) ⌝ }
+    ensures { λ r. ⌜ left r 0 (now (bytes .exit)) (now (words .exit)) ≡ outcome (memory (now (bytes .entry)) (now (words .entry))) (model.delete order (memory (now (bytes .entry)) (now (words .entry))) task driver object container) ⌝ }
 {
     let judged = judge::delete(bytes, words, order, task, driver, object, container);
     if judged.verdict <= SLIPPED {

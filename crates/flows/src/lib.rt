@@ -4,7 +4,8 @@ ghost use mathlib.Core.Bool.{true};
 ghost use lib.ListN.{length};
 ghost use Rattle.levels.specs.Order.{orderPasses};
 ghost use Rattle.model.specs.State.{memory};
-ghost use Rattle.model.specs.Events.{left, outcome, callTask, invoke, pass, post, find};
+ghost use Rattle.model.specs.Events as model;
+ghost use Rattle.model.specs.Events.{left, outcome};
 
 mod judge;
 
@@ -14,7 +15,7 @@ use model::SLIPPED;
 
 pub fn call_task(bytes: &[u8], words: &mut [u64], order: Order, caller: u16, callee: u16) -> u8
     requires { ⌜ (length (now bytes) ≡ 1024) × (length (now words) ≡ 768) × (orderPasses order ≡ true) ⌝ }
-    ensures { λ r. ⌜ left r 0 (now (bytes .entry)) (now (words .exit)) ≡ outcome (memory (now (bytes .entry)) (now (words .entry))) (callTask order (memory (now (bytes .entry)) (now (words .entry))) caller callee) ⌝ }
+    ensures { λ r. ⌜ left r 0 (now (bytes .entry)) (now (words .exit)) ≡ outcome (memory (now (bytes .entry)) (now (words .entry))) (model.callTask order (memory (now (bytes .entry)) (now (words .entry))) caller callee) ⌝ }
 {
     let judged = judge::call_task(bytes, order, caller, callee);
     if judged.verdict <= SLIPPED {
@@ -25,7 +26,7 @@ pub fn call_task(bytes: &[u8], words: &mut [u64], order: Order, caller: u16, cal
 
 pub fn invoke(bytes: &[u8], words: &mut [u64], order: Order, invoker: u16, invokee: u16) -> u8
     requires { ⌜ (length (now bytes) ≡ 1024) × (length (now words) ≡ 768) × (orderPasses order ≡ true) ⌝ }
-    ensures { λ r. ⌜ left r 0 (now (bytes .entry)) (now (words .exit)) ≡ outcome (memory (now (bytes .entry)) (now (words .entry))) (invoke order (memory (now (bytes .entry)) (now (words .entry))) invoker invokee) ⌝ }
+    ensures { λ r. ⌜ left r 0 (now (bytes .entry)) (now (words .exit)) ≡ outcome (memory (now (bytes .entry)) (now (words .entry))) (model.invoke order (memory (now (bytes .entry)) (now (words .entry))) invoker invokee) ⌝ }
 {
     let judged = judge::invoke(bytes, order, invoker, invokee);
     if judged.verdict <= SLIPPED {
@@ -36,7 +37,7 @@ pub fn invoke(bytes: &[u8], words: &mut [u64], order: Order, invoker: u16, invok
 
 pub fn pass(bytes: &[u8], words: &mut [u64], order: Order, z: u16, x: u16, y: u16) -> u8
     requires { ⌜ (length (now bytes) ≡ 1024) × (length (now words) ≡ 768) × (orderPasses order ≡ true) ⌝ }
-    ensures { λ r. ⌜ left r 0 (now (bytes .entry)) (now (words .exit)) ≡ outcome (memory (now (bytes .entry)) (now (words .entry))) (pass order (memory (now (bytes .entry)) (now (words .entry))) z x y) ⌝ }
+    ensures { λ r. ⌜ left r 0 (now (bytes .entry)) (now (words .exit)) ≡ outcome (memory (now (bytes .entry)) (now (words .entry))) (model.pass order (memory (now (bytes .entry)) (now (words .entry))) z x y) ⌝ }
 {
     let judged = judge::pass(bytes, words, order, z, x, y);
     if judged.verdict <= SLIPPED {
@@ -47,7 +48,7 @@ pub fn pass(bytes: &[u8], words: &mut [u64], order: Order, z: u16, x: u16, y: u1
 
 pub fn post(bytes: &[u8], words: &mut [u64], order: Order, x: u16, z: u16, y: u16) -> u8
     requires { ⌜ (length (now bytes) ≡ 1024) × (length (now words) ≡ 768) × (orderPasses order ≡ true) ⌝ }
-    ensures { λ r. ⌜ left r 0 (now (bytes .entry)) (now (words .exit)) ≡ outcome (memory (now (bytes .entry)) (now (words .entry))) (post order (memory (now (bytes .entry)) (now (words .entry))) x z y) ⌝ }
+    ensures { λ r. ⌜ left r 0 (now (bytes .entry)) (now (words .exit)) ≡ outcome (memory (now (bytes .entry)) (now (words .entry))) (model.post order (memory (now (bytes .entry)) (now (words .entry))) x z y) ⌝ }
 {
     let judged = judge::post(bytes, words, order, x, z, y);
     if judged.verdict <= SLIPPED {
@@ -58,7 +59,7 @@ pub fn post(bytes: &[u8], words: &mut [u64], order: Order, x: u16, z: u16, y: u1
 
 pub fn find(bytes: &[u8], words: &mut [u64], order: Order, x: u16, z: u16, y: u16) -> u8
     requires { ⌜ (length (now bytes) ≡ 1024) × (length (now words) ≡ 768) × (orderPasses order ≡ true) ⌝ }
-    ensures { λ r. ⌜ left r 0 (now (bytes .entry)) (now (words .exit)) ≡ outcome (memory (now (bytes .entry)) (now (words .entry))) (find order (memory (now (bytes .entry)) (now (words .entry))) x z y) ⌝ }
+    ensures { λ r. ⌜ left r 0 (now (bytes .entry)) (now (words .exit)) ≡ outcome (memory (now (bytes .entry)) (now (words .entry))) (model.find order (memory (now (bytes .entry)) (now (words .entry))) x z y) ⌝ }
 {
     let judged = judge::find(bytes, words, order, x, z, y);
     if judged.verdict <= SLIPPED {

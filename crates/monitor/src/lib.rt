@@ -6,7 +6,8 @@ ghost use Rattle.records.specs.Records.{sound};
 ghost use Rattle.levels.specs.Order.{orderPasses};
 ghost use Rattle.model.specs.State.{memory, lengthsFit};
 ghost use Rattle.model.specs.Events.{left};
-ghost use Rattle.model.specs.Monitor.{perform, raised, oneMore, start, started, report, nextMarked};
+ghost use Rattle.model.specs.Monitor as model;
+ghost use Rattle.model.specs.Monitor.{raised, oneMore, started, nextMarked};
 ghost use Rattle.monitor.specs.Request.{callOf};
 use levels::Order;
 use model::Answer;
@@ -121,7 +122,7 @@ fn set_up(bytes: &mut [u8], words: &mut [u64], order: Order)
 
 // A start tests lengths and the order only.
 fn start(bytes: &mut [u8], words: &mut [u64], order: Order) -> u8
-    ensures { λ r. ⌜ left r 0 (now (bytes .exit)) (now (words .exit)) ≡ start order (memory (now (bytes .entry)) (now (words .entry))) ⌝ }
+    ensures { λ r. ⌜ left r 0 (now (bytes .exit)) (now (words .exit)) ≡ model.start order (memory (now (bytes .entry)) (now (words .entry))) ⌝ }
 {
     if !lengths_fit(bytes, words) {
         return model::STATE;
@@ -154,7 +155,7 @@ fn plain(verdict: u8) -> Answer
 // A call that has passed rows 2 and 3; a start tests for itself.
 fn event(bytes: &mut [u8], words: &mut [u64], order: Order, call: Call) -> Answer
     requires { ⌜ (length (now bytes) ≡ 1024) × (length (now words) ≡ 768) × (orderPasses order ≡ true) × (sound order (now bytes) ≡ true) ⌝ }
-    ensures { λ r. ⌜ left (r .verdict) (r .rounds) (now (bytes .exit)) (now (words .exit)) ≡ perform order (memory (now (bytes .entry)) (now (words .entry))) call ⌝ }
+    ensures { λ r. ⌜ left (r .verdict) (r .rounds) (now (bytes .exit)) (now (words .exit)) ≡ model.perform order (memory (now (bytes .entry)) (now (words .entry))) call ⌝ }
 {
     match call {
         Call::Start => plain(start(bytes, words, order)),
@@ -196,9 +197,9 @@ fn event(bytes: &mut [u8], words: &mut [u64], order: Order, call: Call) -> Answe
     }
 }
 
-// Every call but its tally.
-pub fn answer(bytes: &mut [u8], words: &mut [u64], order: Order, call: Call) -> Answer
-    ensures { λ r. ⌜ left (r .verdict) (r .rounds) (now (bytes .exit)) (now (words .exit)) ≡ perform order (memory (now (bytes .entry)) (now (words .entry))) call ⌝ }
+// Every call, without its tally.
+fn answer(bytes: &mut [u8], words: &mut [u64], order: Order, call: Call) -> Answer
+    ensures { λ r. ⌜ left (r .verdict) (r .rounds) (now (bytes .exit)) (now (words .exit)) ≡ model.perform order (memory (now (bytes .entry)) (now (words .entry))) call ⌝ }
 {
     if let Call::Start = call {
         return plain(start(bytes, words, order));
@@ -220,8 +221,8 @@ pub fn perform(
     order: Order,
     call: Call,
 ) -> Counted
-    ensures { λ r. ⌜ (left (r .answer .verdict) (r .answer .rounds) (now (bytes .exit)) (now (words .exit)) ≡ perform order (memory (now (bytes .entry)) (now (words .entry))) call)
-        × (r .tally ≡ raised tally (perform order (memory (now (bytes .entry)) (now (words .entry))) call .verdict)) ⌝ }
+    ensures { λ r. ⌜ (left (r .answer .verdict) (r .answer .rounds) (now (bytes .exit)) (now (words .exit)) ≡ model.perform order (memory (now (bytes .entry)) (now (words .entry))) call)
+        × (r .tally ≡ raised tally (model.perform order (memory (now (bytes .entry)) (now (words .entry))) call .verdict)) ⌝ }
 {
     let given = answer(bytes, words, order, call);
     let verdict = given.verdict;
@@ -240,8 +241,8 @@ pub fn perform_request(
     order: Order,
     request: Request,
 ) -> Counted
-    ensures { λ r. ⌜ (left (r .answer .verdict) (r .answer .rounds) (now (bytes .exit)) (now (words .exit)) ≡ perform order (memory (now (bytes .entry)) (now (words .entry))) (callOf request))
-        × (r .tally ≡ raised tally (perform order (memory (now (bytes .entry)) (now (words .entry))) (callOf request) .verdict)) ⌝ }
+    ensures { λ r. ⌜ (left (r .answer .verdict) (r .answer .rounds) (now (bytes .exit)) (now (words .exit)) ≡ model.perform order (memory (now (bytes .entry)) (now (words .entry))) (callOf request))
+        × (r .tally ≡ raised tally (model.perform order (memory (now (bytes .entry)) (now (words .entry))) (callOf request) .verdict)) ⌝ }
 {
     let call = call_of(request);
     perform(bytes, words, tally, order, call)
@@ -256,8 +257,8 @@ pub extern "C" fn tupehiwo_perform(
     order: Order,
     request: Request,
 ) -> Answer
-    ensures { λ r. ⌜ (left (r .verdict) (r .rounds) (now (bytes .exit)) (now (words .exit)) ≡ perform order (memory (now (bytes .entry)) (now (words .entry))) (callOf request))
-        × (now (tally .exit) ≡ raised (now (tally .entry)) (perform order (memory (now (bytes .entry)) (now (words .entry))) (callOf request) .verdict)) ⌝ }
+    ensures { λ r. ⌜ (left (r .verdict) (r .rounds) (now (bytes .exit)) (now (words .exit)) ≡ model.perform order (memory (now (bytes .entry)) (now (words .entry))) (callOf request))
+        × (now (tally .exit) ≡ raised (now (tally .entry)) (model.perform order (memory (now (bytes .entry)) (now (words .entry))) (callOf request) .verdict)) ⌝ }
 {
     let before = *tally;
     let done = perform_request(bytes, words, before, order, request);
@@ -268,7 +269,7 @@ pub extern "C" fn tupehiwo_perform(
 // The report, as C and Rust call it.
 #[no_mangle]
 pub extern "C" fn tupehiwo_report(bytes: &[u8], words: &[u64], order: Order) -> Report
-    ensures { λ r. ⌜ r ≡ report order (memory (now (bytes .entry)) (now (words .entry))) ⌝ }
+    ensures { λ r. ⌜ r ≡ model.report order (memory (now (bytes .entry)) (now (words .entry))) ⌝ }
 {
     marking::report(bytes, words, order)
 }

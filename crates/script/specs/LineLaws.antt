@@ -33,7 +33,7 @@ unfolding startOf
 no-count none = refl
 no-count (other e) = rw e
 
-pub count-over : {l : List ℕ} {at n e : ℕ} → Next l at n e → mostLevels < n → startOf (afterwards (drop at l)) ≡ tooMany
+pub count-over : {l : List ℕ} {at n e : ℕ} → Next l at n e → mostLevels < n → startOf (afterwards (drop at l)) ≡ tooMany n
 unfolding startOf
 count-over {l} {at} c h = rw (c .follows, c .number, c .is, lt-leb _ _ h)
 

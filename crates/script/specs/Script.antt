@@ -8,7 +8,7 @@ use lib.ListN.{length, getD, replicate}
 use Rattle.levels.specs.declared.Order.{Order}
 use Rattle.levels.specs.Order.{mostLevels}
 use Rattle.script.specs.declared.Line.{Line}
-use Rattle.script.specs.declared.Line.the-variants.{Bad, TooMany, Starts, Asks}
+use Rattle.script.specs.declared.Line.the-variants.{Bad, Starts, Asks}
 use Rattle.script.specs.declared.Parsed.{Parsed}
 use Rattle.model.specs.declared.Call.{Call}
 use Rattle.model.specs.declared.Call.the-variants.{Read, Write, Execute, Create, CreateRoot, Move, Delete, CallTask, Invoke, Pass, Post, Find, Mark, Step, Spread}
@@ -22,11 +22,12 @@ noOrder = record { rows = replicate mostLevels 0; count = 0; top = 0 }
 abbrev pub bad : Parsed
 bad = record { line = Bad; order = noOrder }
 
-abbrev pub tooMany : Parsed
-tooMany = record { line = TooMany; order = noOrder }
-
 abbrev pub starts : Order → Parsed
 starts o = record { line = Starts; order = o }
+
+-- a start whose count is over sixteen: what follows the count is unread, and no such order passes
+abbrev pub tooMany : ℕ → Parsed
+tooMany n = starts (record { rows = replicate mostLevels 0; count = n; top = 0 })
 
 abbrev pub asks : Call → Parsed
 asks c = record { line = Asks c; order = noOrder }
@@ -171,7 +172,7 @@ unfoldable pub startOf : List (List ℕ) → Parsed
 startOf [] = bad
 startOf (p ∷ ps) =
     cond (isNumber p)
-    (cond (leb (value p) mostLevels) (cond (allNumbers ps) (orderOf (value p) (values ps)) bad) tooMany)
+    (cond (leb (value p) mostLevels) (cond (allNumbers ps) (orderOf (value p) (values ps)) bad) (tooMany (value p)))
     bad
 
 unfoldable pub lineOf : List (List ℕ) → Parsed

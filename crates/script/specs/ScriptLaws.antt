@@ -41,7 +41,7 @@ numbers-span (p ∷ ps) e = omega (arith, number-short p (and-l _ _ e), numbers-
 
 longStart : List (List ℕ) → Parsed
 longStart [] = bad
-longStart (p ∷ ps) = cond (isNumber p) (cond (leb (value p) mostLevels) bad tooMany) bad
+longStart (p ∷ ps) = cond (isNumber p) (cond (leb (value p) mostLevels) bad (tooMany (value p))) bad
 
 longLine : List (List ℕ) → Parsed
 longLine [] = bad

@@ -12,7 +12,7 @@ ghost use Rattle.script.specs.Script.{bad as bad·line, asks as asks·li
 ghost use Rattle.script.specs.Pieces.{callWith};
 
 // A line that is no start.
-pub fn without_order(line: Line) -> Parsed
+fn without_order(line: Line) -> Parsed
     ensures { λ r. ⌜ r ≡ record { line = line; order = noOrder } ⌝ }
 {
     Parsed {

@@ -15,9 +15,7 @@ ghost use Rattle.script.specs.Pieces.{afterwards};
 pub enum Line {
     // No call: it prints bad and does nothing.
     Bad,
-    // A start whose count is over sixteen: verdict 3, what follows the count unread.
-    TooMany,
-    // A start with its order.
+    // A start with its order. Of one whose count is over sixteen only the count is read: no such order passes, whatever its rows.
     Starts,
     Asks(Call),
 }
@@ -38,7 +36,14 @@ fn start_after(line: &[u8], at: usize) -> Parsed
         return calls::bad();
     };
     if count > MOST_LEVELS {
-        return calls::without_order(Line::TooMany);
+        return Parsed {
+            line: Line::Starts,
+            order: Order {
+                rows: [0; 16],
+                count,
+                top: 0,
+            },
+        };
     }
     let Found::Number {
         value: top,

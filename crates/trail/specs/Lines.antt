@@ -9,12 +9,12 @@ use Rattle.model.specs.declared.Call.{Call}
 use Rattle.model.specs.declared.Call.the-variants.{Start, Read, Write, Execute, Create, CreateRoot, Move, Delete, CallTask, Invoke, Pass, Post, Find, Mark, Step, Spread}
 use Rattle.model.specs.declared.Tally.{Tally}
 use Rattle.model.specs.Events.{Outcome}
-use Rattle.model.specs.Verdicts.{granted, row-order}
+use Rattle.model.specs.Verdicts.{granted}
 use Rattle.model.specs.State.{Memory, memory}
 use Rattle.model.specs.Monitor.{perform, raised}
 use Rattle.script.specs.Script.{readLine}
 use Rattle.script.specs.declared.Line.{Line}
-use Rattle.script.specs.declared.Line.the-variants.{Bad, TooMany, Starts, Asks}
+use Rattle.script.specs.declared.Line.the-variants.{Bad, Starts, Asks}
 use Rattle.script.specs.declared.print.Reply.{Reply}
 use Rattle.script.specs.declared.print.Reply.the-variants as reply
 use Rattle.trail.specs.declared.lines.Run.{Run}
@@ -62,12 +62,9 @@ asked m s c = let out = perform (s .order) m c in answered out (replyTo c (out .
 unfoldable pub startedWith : Memory → Run → Order → LineOutcome
 startedWith m s o = let out = perform o m Start in answered out (reply.Verdict (out .verdict)) (cond (eqb (out .verdict) granted) o (s .order)) (s .tally)
 
-unfoldable pub unchanged : Memory → Run → Reply → LineOutcome
-unchanged m s r = record { done = record { reply = r; run = s }; memory = m }
-
+-- any other line prints bad and does nothing
 unfoldable pub doneBy : Memory → Run → Order → Line → LineOutcome
-doneBy m s o Bad = unchanged m s reply.Bad
-doneBy m s o TooMany = unchanged m s (reply.Verdict row-order)
+doneBy m s o Bad = record { done = record { reply = reply.Bad; run = s }; memory = m }
 doneBy m s o Starts = startedWith m s o
 doneBy m s o (Asks c) = asked m s c
 

@@ -84,13 +84,10 @@ one-more {r} {n = n} u h p q i =
       marked = i .marked;
     }
 
-pub all-listed : {r : Report} {l m m′ m″ : List ℕ} {at e e′ n : ℕ} → Printed l 0 markedWord m at → UpTo r m at m′ e n → 128 ≤ n → Printed m′ e lineFeed m″ e′ → Printed l 0 (markedLine r) m″ e′
+pub all-listed : {r : Report} {l m m′ m″ : List ℕ} {from at e e′ n : ℕ} → Printed l from markedWord m at → UpTo r m at m′ e n → 128 ≤ n → Printed m′ e lineFeed m″ e′ → Printed l from (markedLine r) m″ e′
 unfolding markedLine
 all-listed {n = n} p u h q = let z : n ≡ 128 = omega (arith, u .within) in rw (← z) (then (then p (u .text)) q)
 
 pub marked-short : (r : Report) → length (markedLine r) ≤ 1024
 unfolding markedLine markedWord
 marked-short r = omega (arith, length-append (markedWord ++ listed (isMarked r) 128) lineFeed, length-append markedWord (listed (isMarked r) 128), listed-short (isMarked r) 128)
-
-pub marked-within : (r : Report) {e : ℕ} → e ≡ length (markedLine r) → e ≤ 1024
-marked-within r p = omega (arith, marked-short r)

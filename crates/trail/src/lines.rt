@@ -7,6 +7,7 @@ use script::print::Reply;
 ghost use mathlib.Core.Path.{_≡_};
 ghost use Rattle.model.specs.State.{memory};
 ghost use Rattle.trail.specs.Lines.{leaves, replyTo, asked, startedWith, lineDone};
+ghost use Rattle.trail.specs.Script.{firstRun};
 
 // What is kept from line to line, beside the memory: the order of the last granted start, and the tally.
 pub struct Run {
@@ -15,7 +16,9 @@ pub struct Run {
 }
 
 // Before the first start: the order all zero, nothing counted.
-pub fn at_first() -> Run {
+pub fn at_first() -> Run
+    ensures { λ r. ⌜ r ≡ firstRun ⌝ }
+{
     Run {
         order: Order {
             rows: [0; 16],
@@ -90,10 +93,6 @@ pub fn do_line(line: &[u8], bytes: &mut [u8], words: &mut [u64], run: Run) -> Do
     match kind {
         Line::Bad => Done {
             reply: Reply::Bad,
-            run,
-        },
-        Line::TooMany => Done {
-            reply: Reply::Verdict(model::ORDER),
             run,
         },
         Line::Starts => {

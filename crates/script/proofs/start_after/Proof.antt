@@ -16,7 +16,7 @@ counts : (c : tie.After-known-told) → Next (c .before .before .before .before 
 counts c = next-number _ _ _ _ (sym (c .before .before .before .number-after .ensures) ∙ c .before .count .given .1)
 
 returns-2 : tie.Need-returns-2
-returns-2 c = c .without-order .ensures ∙ sym (count-over (counts (c .before .before)) (c .before .if1 .taken))
+returns-2 c = sym (count-over (counts (c .before)) (c .if1 .taken))
 
 returns-3 : tie.Need-returns-3
 returns-3 c =
@@ -41,6 +41,5 @@ returns-5 c = let r = c .before .before .before .before in c .bad3 .ensures ∙ 
 pub start-after-spec : {M : Type 1} → statement M
 start-after-spec =
     tie.close
-    (tie.spec (λ c κs. search needs) (λ c. search needs) (λ c. search needs) (λ c κs. search needs) returns (λ c κs. search needs)
-    returns-2 (λ c κs. search needs) (λ c. search needs) (λ c. search needs) (λ c κs. search needs) returns-3 (λ c κs. search needs)
+    (tie.spec (λ c κs. search needs) (λ c. search needs) (λ c. search needs) (λ c κs. search needs) returns returns-2 (λ c κs. search needs) (λ c. search needs) (λ c. search needs) (λ c κs. search needs) returns-3 (λ c κs. search needs)
     (λ c. search needs) (λ c κs. search needs) returns-4 returns-5)

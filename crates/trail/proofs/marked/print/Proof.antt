@@ -1,18 +1,17 @@
-use native.Mathlib.Nat.{zero-add}
 use native.Mathlib.Omega.{arith}
 use Prim.Native.Nat.{_+_, _-_}
 use borrow.Author.Needs.{needs}
-use Rattle.script.specs.PrintLaws.{printed-length, printed-whole}
+use Rattle.script.specs.PrintLaws.{printed-length}
 use Rattle.trail.specs.Marked.{markedWord}
-use Rattle.trail.specs.MarkedLaws.{IsNext, next, UpTo, none-yet, one-more, all-listed, marked-short}
+use Rattle.trail.specs.MarkedLaws.{IsNext, next, UpTo, none-yet, one-more, all-listed}
 use Rattle.trail.proofs.marked.print.Statement.{statement}
 use Rattle.trail.proofs.marked.print.Tie as tie
 
 abbrev Inv-loop : tie.InvT-loop
-Inv-loop out₀ report end₀ n₀ out end n = UpTo report out₀ end₀ out end n
+Inv-loop out₀ at report end₀ n₀ out end n = UpTo report out₀ end₀ out end n
 
 abbrev μ-loop : tie.MeasureT-loop
-μ-loop out₀ report end₀ n₀ out end n = 128 - n
+μ-loop out₀ at report end₀ n₀ out end n = 128 - n
 
 loop-holds : tie.Need-loop-holds Inv-loop μ-loop
 loop-holds c = none-yet _ _ (next _ 0 _ (omega arith) (c .next-marked .ensures))
@@ -34,11 +33,10 @@ unfolding markedWord
 returns c =
     let b = c .before .before in
     let s = b .before .before .before in
-    let p = all-listed (s .before .before .before .before .text .ensures) (s .loop .inv) (omega arith) (b .byte2 .ensures) in
-    (p, simp zero-add at (printed-whole p (omega (arith, marked-short (s .before .before .before .before .before .before .before .before .args .report)))))
+    all-listed (s .before .before .before .before .text .ensures) (s .loop .inv) (omega arith) (b .byte2 .ensures)
 
 same-length : tie.Need-same-length Inv-loop μ-loop
-same-length c = printed-length (returns c .0)
+same-length c = printed-length (returns c)
 
 pub print-spec : {M : Type 1} → statement M
 print-spec =
