@@ -22,7 +22,7 @@ progressIn s out bs ws = record { printed = take (s .used) out; run = s .run; me
 
 -- with what is kept of the open line
 abbrev pub fedIn : State → List ℕ → List ℕ → List ℕ → List ℕ → Fed
-fedIn s line out bs ws = record { open = take (s .filled) line; progress = progressIn s out bs ws }
+fedIn s line out bs ws = record { line = take (s .filled) line; progress = progressIn s out bs ws }
 
 -- some piece, or none, was fed between the two, and all that was printed is written
 pub record FedSome (f g : Fed) : Type 0 where

@@ -13,17 +13,17 @@ lineSize = 128
 
 -- between two bytes: what is kept of the line that is open, and how far the script has come with the lines before it
 pub record Fed : Type 0 where
-  pub open : List ℕ
+  pub line : List ℕ
   pub progress : Progress
 
 unfoldable pub unfed : Fed
-unfed = record { open = []; progress = nothingRead }
+unfed = record { line = []; progress = nothingRead }
 
 unfoldable pub fedByte : ℕ → Fed → Fed
 fedByte b f =
     cond (eqb b lineEnd)
-    (record { open = []; progress = afterLine (f .open) (f .progress) })
-    (record { open = take lineSize (f .open ++ b ∷ []); progress = f .progress })
+    (record { line = []; progress = afterLine (f .line) (f .progress) })
+    (record { line = take lineSize (f .line ++ b ∷ []); progress = f .progress })
 
 unfoldable pub fed : List ℕ → Fed → Fed
 fed [] f = f
@@ -34,12 +34,15 @@ unfoldable pub lastLine : List ℕ → Progress → Progress
 lastLine [] p = p
 lastLine (b ∷ bs) p = afterLine (b ∷ bs) p
 
+unfoldable pub closed : Fed → Progress
+closed f = lastLine (f .line) (f .progress)
+
 unfoldable pub ended : Fed → List ℕ
-ended f = withMarked (lastLine (f .open) (f .progress))
+ended f = withMarked (closed f)
 
 -- what is printed was written
 unfoldable pub emptied : Fed → Fed
-emptied f = record { open = f .open; progress = record { printed = []; run = f .progress .run; memory = f .progress .memory } }
+emptied f = record { line = f .line; progress = record { printed = []; run = f .progress .run; memory = f .progress .memory } }
 
 -- all that is written: the answers to each piece before the next one comes, and what is left at the end
 unfoldable pub written : List (List ℕ) → Fed → List ℕ

@@ -2,6 +2,7 @@
 -- Assumes nothing.
 use mathlib.Core.Path.{_≡_, refl, sym, ap, _∙_}
 use mathlib.Core.Logic.{inl, inr}
+use mathlib.Core.Bool.{true, false}
 use mathlib.Core.List.{List, [], _∷_, _++_, append-assoc, append-nil}
 use Prim.Native.Nat.{ℕ, zero, suc, _≤_}
 use native.Mathlib.Omega.{arith}
@@ -14,7 +15,7 @@ use Rattle.script.specs.Script.{into, readLine}
 use Rattle.script.specs.ScriptLaws.{long-lines}
 use Rattle.trail.specs.Lines.{lineDone}
 use Rattle.trail.specs.Script.{lineEnd, lines, Progress, nothingRead, afterLine, afterLines, withMarked, atEnd, output}
-use Rattle.trail.specs.Pieces.{lineSize, Fed, unfed, fedByte, fed, lastLine, ended, emptied, written}
+use Rattle.trail.specs.Pieces.{lineSize, Fed, unfed, fedByte, fed, lastLine, closed, ended, emptied, written}
 use Rattle.trail.specs.Claims.{joined, FedJoined}
 
 pub fed-joined : FedJoined
@@ -28,7 +29,7 @@ ahead : List ℕ → Progress → Progress
 ahead t p = record { printed = t ++ p .printed; run = p .run; memory = p .memory }
 
 fedAhead : List ℕ → Fed → Fed
-fedAhead t f = record { open = f .open; progress = ahead t (f .progress) }
+fedAhead t f = record { line = f .line; progress = ahead t (f .progress) }
 
 line-ahead : (t l : List ℕ) (p : Progress) → afterLine l (ahead t p) ≡ ahead t (afterLine l p)
 unfolding ahead afterLine
@@ -49,10 +50,10 @@ last-ahead t [] p = refl
 last-ahead t (b ∷ l) p = line-ahead t (b ∷ l) p
 
 ended-ahead : (t : List ℕ) (f : Fed) → ended (fedAhead t f) ≡ t ++ ended f
-unfolding ended fedAhead withMarked
+unfolding ended closed fedAhead withMarked
 ended-ahead t f = rw last-ahead (unfold ahead in rw append-assoc)
 
-pub is-ahead : (f : Fed) → fedAhead (f .progress .printed) (emptied f) ≡ f
+is-ahead : (f : Fed) → fedAhead (f .progress .printed) (emptied f) ≡ f
 unfolding fedAhead ahead emptied
 is-ahead f = rw append-nil
 
@@ -109,19 +110,26 @@ onto-into (a ∷ w) b (l ∷ ls) = rw (append-snoc w b l)
 
 -- ---- the bytes one by one, and the lines
 
-module _ (w : List ℕ) where
-  -- the first bytes of w are kept
-  opened : Progress → Fed
-  opened p = record { open = take lineSize w; progress = p }
+-- of w, which is open, the first bytes are kept
+opened : List ℕ → Progress → Fed
+opened w p = record { line = take lineSize w; progress = p }
 
-fed-lines : (bs w : List ℕ) (p : Progress) → lastLine (fed bs (opened w p) .open) (fed bs (opened w p) .progress) ≡ afterLines (onto w (lines bs)) p
-unfolding fed fedByte lines afterLines lastLine onto opened
-fed-lines [] [] p = refl
-fed-lines [] (a ∷ w) p = after-kept (a ∷ w) p
+byte-ends : (b : ℕ) (w : List ℕ) (p : Progress) → eqb b lineEnd ≡ true → fedByte b (opened w p) ≡ opened [] (afterLine w p)
+unfolding fedByte opened
+byte-ends b w p h = rw (h, after-kept w p)
+
+byte-goes-on : (b : ℕ) (w : List ℕ) (p : Progress) → eqb b lineEnd ≡ false → fedByte b (opened w p) ≡ opened (w ++ b ∷ []) p
+unfolding fedByte opened
+byte-goes-on b w p h = rw (h, take-more lineSize w (b ∷ []))
+
+fed-lines : (bs w : List ℕ) (p : Progress) → closed (fed bs (opened w p)) ≡ afterLines (onto w (lines bs)) p
+unfolding fed lines afterLines
+fed-lines [] [] p = unfold closed lastLine onto opened in refl
+fed-lines [] (a ∷ w) p = unfold closed lastLine onto opened in after-kept (a ∷ w) p
 fed-lines (b ∷ bs) w p =
     elim (either (eqb b lineEnd)) [
-      | inl h ↦ rw (h, after-kept w p, onto-end w (lines bs)) (fed-lines bs [] (afterLine w p))
-      | inr h ↦ rw (h, take-more lineSize w (b ∷ []), onto-into w b (lines bs)) (fed-lines bs (w ++ b ∷ []) p)
+      | inl h ↦ rw (byte-ends b w p h, h, onto-end w (lines bs)) (fed-lines bs [] (afterLine w p) ∙ (unfold onto in refl))
+      | inr h ↦ rw (byte-goes-on b w p h, h, onto-into w b (lines bs)) (fed-lines bs (w ++ b ∷ []) p)
     ]
 
 pub whole : (input : List ℕ) → ended (fed input unfed) ≡ output input

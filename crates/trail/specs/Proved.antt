@@ -29,7 +29,7 @@ use Rattle.script.specs.declared.Line.the-variants.{Bad, Starts, Asks}
 use Rattle.containment.specs.Lists.{Item, asks, Standing, Role, starting, marking, other, role, entered, next, run, Admitted, Admissible, begun}
 use Rattle.containment.specs.Proved.{containment, never-unsound}
 use Rattle.trail.specs.Lines.{answered, asked, startedWith, doneBy, lineDone}
-use Rattle.trail.specs.Script.{Progress, lines, zeros, firstRun, nothingRead, afterLine, afterLines, atEnd}
+use Rattle.trail.specs.Script.{Progress, lines, zeros, nothingRead, afterLine, afterLines, atEnd}
 use Rattle.trail.specs.Pieces.{unfed}
 use Rattle.trail.specs.PiecesLaws.{written-is, whole}
 use Rattle.trail.specs.Claims.{joined, InPieces, callsBy, calls, standing, Begun, RunsLists, ScriptContained, OverSixteen}
@@ -143,17 +143,21 @@ line-runs : (k : Line) (o : Order) (p : Progress) (s : Standing) → Agree p s �
     × Stands (run (callsBy (p .run .order) o k) s)
 unfolding doneBy callsBy run startedWith asked answered
 line-runs Bad o p s a b = (a .0, a .1, b)
-line-runs Starts o p s a b =
-    (rw (a .0) (sym (next-memory o Start s)), rw (a .0, a .1) (sym (start-order o s)),
-    ⊎-elim (λ e. rw e (first-start o)) (λ g. inr (begun-more s g (asks o Start) (inl refl))) b)
-line-runs (Asks c) o p s a b =
-    (rw (a .0, a .1) (sym (next-memory (s .order) c s)), rw (a .1) (sym (next-order c s)),
-    rw (a .1) (⊎-elim (λ e. inl (rw e (unfold nothing in refused-next noOrder c _ (none-done c)))) (λ g. inr (begun-more s g (asks (s .order) c) (inr (λ d. refl)))) b))
+line-runs Starts o p s a b = (
+  rw (a .0) (sym (next-memory o Start s)),
+  rw (a .0, a .1) (sym (start-order o s)),
+  ⊎-elim (λ e. rw e (first-start o)) (λ g. inr (begun-more s g (asks o Start) (inl refl))) b,
+)
+line-runs (Asks c) o p s a b = (
+  rw (a .0, a .1) (sym (next-memory (s .order) c s)),
+  rw (a .1) (sym (next-order c s)),
+  rw (a .1) (⊎-elim (λ e. inl (rw e (unfold nothing in refused-next noOrder c _ (none-done c)))) (λ g. inr (begun-more s g (asks (s .order) c) (inr (λ d. refl)))) b),
+)
 
 lines-run : (ls : List (List ℕ)) (p : Progress) (s : Standing) → Agree p s → Stands s
     → Agree (afterLines ls p) (run (calls ls p) s) × Stands (run (calls ls p) s)
 unfolding afterLines calls
-lines-run [] p s a b = unfold run in (a .0, a .1, b)
+lines-run [] p s a b = unfold run in (a, b)
 lines-run (l ∷ ls) p s a b =
     let t = line-runs (readLine l .line) (readLine l .order) p s a b in
     rw (run-append (callsBy (p .run .order) (readLine l .order) (readLine l .line)) (calls ls (afterLine l p)) s)
@@ -161,13 +165,13 @@ lines-run (l ∷ ls) p s a b =
 
 -- the whole input
 ends : (input : List ℕ) → Agree (atEnd input) (standing input) × Stands (standing input)
-unfolding atEnd standing nothingRead firstRun
-ends input = lines-run (lines input) nothingRead nothing (unfold nothing in (refl, refl)) (inl refl)
+unfolding atEnd standing nothingRead nothing
+ends input = lines-run (lines input) nothingRead nothing (refl, refl) (inl refl)
 
 pub runs-lists : RunsLists
 runs-lists input =
     let e = ends input in
-    record { memory = e .0; order = e .1; started = ⊎-elim (λ h. inl (rw h (unfold nothing in refl))) inr (e .2) }
+    record { memory = e .0 .0; order = e .0 .1; started = ⊎-elim (λ h. inl (rw h (unfold nothing in refl))) inr (e .1) }
 
 pub script-contained : ScriptContained
 script-contained input =
@@ -192,11 +196,11 @@ begun-fit s b =
 ends-fit : (input : List ℕ) → lengthsFit (atEnd input .memory) ≡ true
 ends-fit input =
     let e = ends input in
-    rw (e .0) (⊎-elim (λ h. rw h (unfold nothing in zeros-fit)) (begun-fit (standing input)) (e .2))
+    rw (e .0 .0) (⊎-elim (λ h. rw h (unfold nothing in zeros-fit)) (begun-fit (standing input)) (e .1))
 
 too-many-refused : (o : Order) (m : Memory) → lengthsFit m ≡ true → mostLevels < o .count → perform o m Start ≡ refusal row-order m
 unfolding start refusedUnless orderPasses countFits
-too-many-refused o m f h = rw (f, lt-leb mostLevels (o .count) h, and-false)
+too-many-refused o m f h = rw (f, lt-leb (o .count) mostLevels h, and-false)
 
 pub over-sixteen : OverSixteen
 unfolding lineDone doneBy startedWith answered

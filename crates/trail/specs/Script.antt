@@ -31,7 +31,7 @@ pub record Progress : Type 0 where
   pub memory : Memory
 
 -- the order is all zero before the first granted start, and nothing is counted yet
-unfoldable pub firstRun : Run
+abbrev pub firstRun : Run
 firstRun = record { order = noOrder; tally = record { granted = 0; slipped = 0; refused = 0 } }
 
 -- memory begins as zeros

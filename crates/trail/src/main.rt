@@ -18,8 +18,8 @@ const IN: usize = 16384;
 
 const OUT: usize = 131072;
 
-// What a turn leaves: whether more may be read, and whether no read and no write has failed.
-struct Turn {
+// What a turn comes to: whether more may be read, and whether no read and no write has failed.
+struct Outcome {
     state: State,
     more: bool,
     ok: bool,
@@ -34,7 +34,13 @@ fn write_out(out: &[u8]) -> bool {
 }
 
 // Reads a piece, feeds it and writes its answers.
-fn turn(line: &mut [u8], out: &mut [u8], bytes: &mut [u8], words: &mut [u64], state: State) -> Turn
+fn turn(
+    line: &mut [u8],
+    out: &mut [u8],
+    bytes: &mut [u8],
+    words: &mut [u64],
+    state: State,
+) -> Outcome
     requires { ⌜ Sized (now line) (now out) × (state .filled ≤ lineSize) ⌝ }
     ensures { λ r. ⌜ FedSome (fedIn state (now (line .entry)) (now (out .entry)) (now (bytes .entry)) (now (words .entry))) (fedIn (r .state) (now (line .exit)) (now (out .exit)) (now (bytes .exit)) (now (words .exit)))
         × (r .state .filled ≤ lineSize) ⌝ }
@@ -45,7 +51,7 @@ fn turn(line: &mut [u8], out: &mut [u8], bytes: &mut [u8], words: &mut [u64], st
         if got < 0 {
             os::fail(b"standard input");
         }
-        return Turn {
+        return Outcome {
             state,
             more: false,
             ok: got == 0,
@@ -55,7 +61,7 @@ fn turn(line: &mut [u8], out: &mut [u8], bytes: &mut [u8], words: &mut [u64], st
     let next = pieces::feed(&input[..n], line, out, bytes, words, state);
     let used = next.used;
     let ok = write_out(&out[..used]);
-    Turn {
+    Outcome {
         state: next,
         more: ok,
         ok,
@@ -64,12 +70,18 @@ fn turn(line: &mut [u8], out: &mut [u8], bytes: &mut [u8], words: &mut [u64], st
 
 // A proved loop has to end, and nothing says that the input does. So the loop counts its turns down, from a number that no run uses
 // up.
-fn read_all(line: &mut [u8], out: &mut [u8], bytes: &mut [u8], words: &mut [u64], from: State) -> Turn
+fn read_all(
+    line: &mut [u8],
+    out: &mut [u8],
+    bytes: &mut [u8],
+    words: &mut [u64],
+    from: State,
+) -> Outcome
     requires { ⌜ Sized (now line) (now out) × (fedIn from (now line) (now out) (now bytes) (now words) ≡ unfed) × (from .filled ≤ lineSize) ⌝ }
     ensures { λ r. ⌜ FedAll (fedIn (r .state) (now (line .exit)) (now (out .exit)) (now (bytes .exit)) (now (words .exit)))
         × (r .state .filled ≤ lineSize) ⌝ }
 {
-    let mut last = Turn {
+    let mut last = Outcome {
         state: from,
         more: true,
         ok: true,

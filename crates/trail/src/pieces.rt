@@ -34,13 +34,7 @@ pub fn at_first() -> State
 }
 
 // A line is done, and its answer printed behind those before it.
-fn end_line(
-    line: &[u8],
-    out: &mut [u8],
-    bytes: &mut [u8],
-    words: &mut [u64],
-    state: State,
-) -> State
+fn end_line(line: &[u8], out: &mut [u8], bytes: &mut [u8], words: &mut [u64], state: State) -> State
     requires { ⌜ state .used + 8 ≤ length (now out) ⌝ }
     ensures { λ r. ⌜ (progressIn r (now (out .exit)) (now (bytes .exit)) (now (words .exit)) ≡ afterLine (now (line .entry)) (progressIn state (now (out .entry)) (now (bytes .entry)) (now (words .entry))))
         × (r .used ≤ state .used + 8) ⌝ }
@@ -135,9 +129,5 @@ pub fn finish(
     };
     let state = last_line(line, out, bytes, words, begun);
     let order = state.run.order;
-    marked::print(
-        out,
-        state.used,
-        marking::report(bytes, words, order),
-    )
+    marked::print(out, state.used, marking::report(bytes, words, order))
 }
