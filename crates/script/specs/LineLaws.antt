@@ -69,9 +69,10 @@ rows-read n t ps h = rw (rows-fit, length-values ps, numbers-are ps)
       | inr a ↦ rw a
     ])
 
-pub start-read : {l : List ℕ} {at n e t f : ℕ} → Next l at n e → n ≤ mostLevels → Next l e t f → startOf (afterwards (drop at l)) ≡ startWith n t (numbersFrom noValues 0 (afterwards (drop f l)))
+pub start-read : {l : List ℕ} {at n e t f : ℕ} {ns : Numbers} → Next l at n e → n ≤ mostLevels → Next l e t f → ns ≡ numbersFrom noValues 0 (afterwards (drop f l))
+    → startOf (afterwards (drop at l)) ≡ startWith n t ns
 unfolding startOf allNumbers values
-start-read {n = n} {t = t} c h d = rw (c .follows, c .number, c .is, le-leb _ _ h, d .follows, d .number, d .is) (rows-read n t _ h)
+start-read {n = n} {t = t} c h d r = rw (c .follows, c .number, c .is, le-leb _ _ h, d .follows, d .number, d .is, r) (rows-read n t _ h)
 
 -- ---- a call
 

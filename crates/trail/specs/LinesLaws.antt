@@ -1,12 +1,16 @@
 -- Laws of what a line does.
 -- Assumes nothing.
 use mathlib.Core.Path.{_≡_}
+use mathlib.Core.Bool.{cond}
 use mathlib.Core.List.{List}
 use Prim.Native.Nat.{ℕ}
+use lib.Dec.{eqb}
+use borrow.Author.Tests.{eq-eqb, ne-eqb}
 use Rattle.levels.specs.declared.Order.{Order}
 use Rattle.model.specs.declared.Tally.{Tally}
 use Rattle.model.specs.State.{Memory}
 use Rattle.model.specs.Events.{Outcome, left}
+use Rattle.model.specs.Verdicts.{granted}
 use Rattle.model.specs.Monitor.{raised}
 use Rattle.script.specs.Script.{readLine}
 use Rattle.script.specs.declared.Line.{Line}
@@ -21,6 +25,13 @@ pub answered-is : (out : Outcome) (f : ℕ → ℕ → Reply) (g : ℕ → Order
     → leaves (record { reply = r; run = record { order = o; tally = u } }) bs ws ≡ answered out (f (out .verdict) (out .rounds)) (g (out .verdict)) t
 unfolding answered
 answered-is out f g t e h p q = rw (h, p, q, ← e)
+
+-- the order that is kept, by the verdict of a start
+pub granted-order : {v : ℕ} (o p : Order) → v ≡ granted → o ≡ cond (eqb v granted) o p
+granted-order o p h = rw (eq-eqb _ _ h)
+
+pub refused-order : {v : ℕ} (o p : Order) → (v ≡ granted → ⊥) → p ≡ cond (eqb v granted) o p
+refused-order o p h = rw (ne-eqb _ _ h)
 
 -- by what the line was read as
 pub line-is : (m : Memory) (s : Run) (l : List ℕ) {p : Parsed} {k : Line} → p ≡ readLine l → p .line ≡ k → lineDone m s l ≡ doneBy m s (p .order) k

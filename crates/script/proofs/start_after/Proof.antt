@@ -28,7 +28,7 @@ by-rows : (c : tie.After-numbers-after) → startOf (afterwards (drop (c .before
 by-rows c =
     let t = c .before in
     let n = t .before .before .before in
-    start-read (counts (n .before .before)) (n .before .if1 .left) (next-number _ _ _ _ (sym (n .number-after2 .ensures) ∙ t .before .top .given .1)) ∙ rw (← c .numbers-after .ensures)
+    start-read (counts (n .before .before)) (n .before .if1 .left) (next-number _ _ _ _ (sym (n .number-after2 .ensures) ∙ t .before .top .given .1)) (c .numbers-after .ensures)
 
 returns-4 : tie.Need-returns-4
 unfolding startWith

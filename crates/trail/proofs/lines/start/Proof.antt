@@ -2,14 +2,13 @@ use mathlib.Core.Path.{refl}
 use mathlib.Core.Bool.{cond}
 use lib.Dec.{eqb}
 use borrow.Author.Needs.{needs}
-use borrow.Author.Tests.{eq-eqb, ne-eqb}
 use Rattle.model.specs.declared.Call.the-variants.{Start}
 use Rattle.model.specs.State.{memory}
 use Rattle.model.specs.Verdicts.{granted}
 use Rattle.model.specs.Monitor.{perform}
 use Rattle.script.specs.declared.print.Reply.the-variants.{Verdict}
 use Rattle.trail.specs.Lines.{startedWith}
-use Rattle.trail.specs.LinesLaws.{answered-is}
+use Rattle.trail.specs.LinesLaws.{answered-is, granted-order, refused-order}
 use Rattle.trail.proofs.lines.start.Statement.{statement}
 use Rattle.trail.proofs.lines.start.Tie as tie
 
@@ -19,7 +18,7 @@ returns c =
     let p = c .before .before .before .before .before .before in
     let a = p .before .before .before .before .before .before .args in
     answered-is (perform (a .order) (memory (a .bytes .now) (a .words .now)) Start) (λ v n. Verdict v) (λ v. cond (eqb v granted) (a .order) (a .run .order)) (a .run .tally)
-    (p .perform .ensures .0) (p .perform .ensures .1) refl (rw (eq-eqb _ _ (c .if1 .taken)))
+    (p .perform .ensures .0) (p .perform .ensures .1) refl (granted-order (a .order) (a .run .order) (c .if1 .taken))
 
 returns-2 : tie.Need-returns-2
 unfolding startedWith
@@ -27,7 +26,7 @@ returns-2 c =
     let p = c .before .before .before .before .before .before .before in
     let a = p .before .before .before .before .before .before .args in
     answered-is (perform (a .order) (memory (a .bytes .now) (a .words .now)) Start) (λ v n. Verdict v) (λ v. cond (eqb v granted) (a .order) (a .run .order)) (a .run .tally)
-    (p .perform .ensures .0) (p .perform .ensures .1) refl (rw (ne-eqb _ _ (c .before .if1 .left)))
+    (p .perform .ensures .0) (p .perform .ensures .1) refl (refused-order (a .order) (a .run .order) (c .before .if1 .left))
 
 pub start-spec : {M : Type 1} → statement M
 start-spec =
