@@ -3,10 +3,10 @@ ghost use mathlib.Core.Path.{_≡_};
 ghost use mathlib.Core.Bool.{true, false};
 ghost use Prim.Native.Nat.{_+_, _*_, _%_, _≤_, _<_};
 ghost use lib.ListN.{length, replicate};
+ghost use Rattle.records.specs.Records as model;
 ghost use Rattle.records.specs.Records.{
   numbers,
   recordSize,
-  field,
   setField,
   setRecord,
   kind,
@@ -14,7 +14,6 @@ ghost use Rattle.records.specs.Records.{
   isObject,
   soundRecord,
   coreRecord,
-  sound,
 };
 ghost use Rattle.records.specs.WordLaws.{
   joined,
@@ -78,7 +77,7 @@ pub const ROOT_SIGN: u8 = 255;
 
 // A byte of the record of x, and 0 past the end of the bytes.
 pub fn field(bytes: &[u8], x: u16, f: u16) -> u8
-    ensures { λ r. ⌜ r ≡ field (now (bytes .entry)) x f ⌝ }
+    ensures { λ r. ⌜ r ≡ model.field (now (bytes .entry)) x f ⌝ }
 {
     let i = RECORD_SIZE * (x as usize) + (f as usize);
     if i < bytes.len() { bytes[i] } else { 0 }
@@ -515,7 +514,7 @@ fn plain_records(bytes: &[u8], order: Order) -> bool
 
 // The bytes are sound.
 pub fn sound(bytes: &[u8], order: Order) -> bool
-    ensures { λ r. ⌜ r ≡ sound order (now (bytes .entry)) ⌝ }
+    ensures { λ r. ⌜ r ≡ model.sound order (now (bytes .entry)) ⌝ }
 {
     if bytes.len() != BYTES {
         return false;

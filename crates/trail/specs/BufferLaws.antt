@@ -12,6 +12,7 @@ use borrow.Author.Tests.{eq-eqb, ne-eqb}
 use Rattle.model.specs.declared.Report.{Report}
 use Rattle.model.specs.State.{memory}
 use Rattle.model.specs.Monitor.{report}
+use Rattle.script.specs.declared.print.Reply.{Reply}
 use Rattle.script.specs.Print.{replyLine, Printed}
 use Rattle.script.specs.PrintLaws.{reply-short, printed-whole, printed-length}
 use Rattle.trail.specs.Lines.{leaves, lineDone}
@@ -30,11 +31,11 @@ pub printed-at : {l m t : List ℕ} {at e : ℕ} → Printed l at t m e → at +
 printed-at {l} {m} {t} {at} {e} p h =
     rw (p .stored, sets-eq t l at h, printed-whole p h) (take-at (take at l ++ t) _ (at + length t) (length-append (take at l) t ∙ rw (length-take-le at l (omega arith))))
 
-pub line-answered : (p : Progress) (l : List ℕ) {d : Done} {bs ws out out′ : List ℕ} {u e : ℕ}
-    → leaves d bs ws ≡ lineDone (p .memory) (p .run) l → take u out ≡ p .printed → Printed out u (replyLine (d .reply)) out′ e → u + 8 ≤ length out
+pub line-answered : (p : Progress) (l : List ℕ) {d : Done} {r : Reply} {bs ws out out′ : List ℕ} {u e : ℕ}
+    → leaves d bs ws ≡ lineDone (p .memory) (p .run) l → take u out ≡ p .printed → Printed out u (replyLine r) out′ e → r ≡ d .reply → u + 8 ≤ length out
     → _≡_ {A = Progress} (record { printed = take e out′; run = d .run; memory = memory bs ws }) (afterLine l p)
 unfolding afterLine
-line-answered p l {d} h q r room = rw (← h, ← q, printed-at r (omega (arith, reply-short (d .reply))))
+line-answered p l {r = r} h q t k room = rw (← h, ← q, ← k, printed-at t (omega (arith, reply-short r)))
 
 -- ---- the end of the input
 

@@ -12,7 +12,7 @@ returns c =
     let p = c .before .before .before in
     let d = p .before .before .before .before .before .before in
     let a = d .before .before .before .before .before .before .before .before .args in (
-      line-answered (progressIn (a .state) (a .out .now) (a .bytes .now) (a .words .now)) (a .line .now) (d .do-line .ensures) refl (p .answer .ensures) (omega arith),
+      line-answered (progressIn (a .state) (a .out .now) (a .bytes .now) (a .words .now)) (a .line .now) (d .do-line .ensures) refl (p .answer .ensures) refl (omega arith),
       omega (arith, reply-within _ (p .answer .ensures)),
     )
 
