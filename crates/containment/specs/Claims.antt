@@ -11,10 +11,10 @@ use Rattle.records.specs.Records.{numbers, field, sound}
 use Rattle.model.specs.declared.Call.{Call}
 use Rattle.model.specs.declared.Call.the-variants.{Start, Mark, Spread}
 use Rattle.model.specs.Verdicts.{granted, isDone, row-state}
-use Rattle.model.specs.State.{Memory, lengthsFit, inUse, task, levelOf, marked, hasFlow}
+use Rattle.model.specs.State.{Memory, lengthsFit, inUse, task, object, levelOf, driverOf, marked, hasFlow}
 use Rattle.model.specs.Spread.{marksSome}
 use Rattle.model.specs.Monitor.{perform}
-use Rattle.containment.specs.Lists.{Item, Standing, run, Admissible, begun}
+use Rattle.containment.specs.Lists.{Item, lent, Standing, run, Admissible, begun}
 use Rattle.containment.specs.Chains.{Chain}
 
 -- ---- the limits on levels
@@ -81,3 +81,34 @@ LeavesSound = (o : Order) (m : Memory) (c : Call) → isDone (perform o m c .ver
 abbrev pub NeverUnsound : Type 0
 NeverUnsound = (o : Order) (m : Memory) (is : List Item) → Reached o m is
     → (c : Call) → perform (run is (begun o m) .order) (run is (begun o m) .memory) c .verdict ≡ row-state → ⊥
+
+-- ---- objects and their drivers
+
+-- every object is at or below its driver
+abbrev pub UnderDrivers : Standing → Type 0
+UnderDrivers s = (x : ℕ) → x < numbers → object (s .memory) x ≡ true → atOrBelow (s .order) (levelOf (s .memory) x) (levelOf (s .memory) (driverOf (s .memory) x)) ≡ true
+
+-- so "only bytes not reached from a start, or an order other than that start's, can break" read's rule L(o) ≤ L(d)
+abbrev pub DriversAbove : Type 0
+DriversAbove = (o : Order) (m : Memory) (is : List Item) → Reached o m is → UnderDrivers (run is (begun o m))
+
+-- ---- no claim is empty
+
+-- any calls and reports at all make a list, if each is lent the order of the start before them
+abbrev pub OwnOrderAdmissible : Type 0
+OwnOrderAdmissible = (o : Order) (m : Memory) (is : List Item) → ((i : Item) → List·Memᴰ i is → lent i ≡ o) → Admissible is (begun o m)
+
+-- after every list a spread is granted
+abbrev pub SpreadGranted : Type 0
+SpreadGranted = (o : Order) (m : Memory) (is : List Item) → Reached o m is
+    → perform (run is (begun o m) .order) (run is (begun o m) .memory) Spread .verdict ≡ granted
+
+-- a spread is granted on this memory and marks something, and no list leaves it, under any order
+pub record Unreached (o : Order) (m : Memory) : Type 0 where
+  pub spread-granted : perform o m Spread .verdict ≡ granted
+  pub spread-marks : marksSome m ≡ true
+  pub no-list : (p : Order) (n : Memory) (is : List Item) → Reached p n is → run is (begun p n) .memory ≡ m → ⊥
+
+-- "a spread on any other state": there is one
+abbrev pub GrantedUnreached : Type 0
+GrantedUnreached = (o : Order) × (m : Memory) × Unreached o m

@@ -10,4 +10,5 @@ pub mod FlowEvents
 pub mod RecordEvents
 pub mod ItemsKeep
 pub mod SpreadProof
+pub mod Witness
 pub mod Proved
