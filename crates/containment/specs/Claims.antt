@@ -11,7 +11,7 @@ use Rattle.records.specs.Records.{numbers, field, sound}
 use Rattle.model.specs.declared.Call.{Call}
 use Rattle.model.specs.declared.Call.the-variants.{Start, Mark, Spread}
 use Rattle.model.specs.Verdicts.{granted, isDone, row-state}
-use Rattle.model.specs.State.{Memory, lengthsFit, inUse, task, object, levelOf, driverOf, marked, hasFlow}
+use Rattle.model.specs.State.{Memory, lengthsFit, inUse, task, object, levelOf, driverOf, marked, hasFlow, hasRead, hasWrite}
 use Rattle.model.specs.Spread.{marksSome}
 use Rattle.model.specs.Monitor.{perform}
 use Rattle.containment.specs.Lists.{Item, lent, Standing, run, Admissible, begun}
@@ -81,6 +81,17 @@ LeavesSound = (o : Order) (m : Memory) (c : Call) → isDone (perform o m c .ver
 abbrev pub NeverUnsound : Type 0
 NeverUnsound = (o : Order) (m : Memory) (is : List Item) → Reached o m is
     → (c : Call) → perform (run is (begun o m) .order) (run is (begun o m) .memory) c .verdict ≡ row-state → ⊥
+
+-- ---- free numbers
+
+-- no flow, no read access and no write access of x to y is recorded
+abbrev pub Unrecorded : Memory → ℕ → ℕ → Type 0
+Unrecorded m x y = (hasFlow m x y ≡ false) × (hasRead m x y ≡ false) × (hasWrite m x y ≡ false)
+
+-- a number that is not in use is bare, in either direction: one given out anew begins with nothing recorded
+abbrev pub FreeBare : Type 0
+FreeBare = (o : Order) (m : Memory) (is : List Item) → Reached o m is → (x y : ℕ) → x < numbers → y < numbers → inUse (run is (begun o m) .memory) x ≡ false
+    → Unrecorded (run is (begun o m) .memory) x y × Unrecorded (run is (begun o m) .memory) y x
 
 -- ---- objects and their drivers
 

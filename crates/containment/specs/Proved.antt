@@ -1,7 +1,7 @@
 -- The claims of demand 3, proved: those about lists here, that a done call leaves sound bytes and that a spread is exact in files of their own.
 -- Assumes nothing.
 use mathlib.Core.Path.{_≡_, refl, sym, ap, _∙_}
-use mathlib.Core.Bool.{Bool, true, false, cond, and-eq-true-iff}
+use mathlib.Core.Bool.{Bool, true, false, cond, and-eq-true-iff, true≢false}
 use mathlib.Core.Logic.{inr, ⊎-elim}
 use mathlib.Core.List.{List, [], _∷_, List·Memᴰ, List·Memᴰ·head, List·Memᴰ·tail}
 use Prim.Native.Nat.{ℕ, _+_, _*_, _<_}
@@ -10,12 +10,12 @@ use lib.Dec.{leb}
 use lib.ListN.{set}
 use lib.Seq.{set-getD}
 use borrow.Author.Tests.{eqb-true, leb-true}
-use Rattle.bits.specs.AllLaws.{either, and-l, and-r}
+use Rattle.bits.specs.AllLaws.{either, and-l, and-r, not-so}
 use Rattle.levels.specs.declared.Order.{Order}
 use Rattle.records.specs.Records.{numbers, recordSize, field, setField}
 use Rattle.model.specs.declared.Call.the-variants.{Start}
 use Rattle.model.specs.Verdicts.{granted, slipped, row-state, row-number, isDone}
-use Rattle.model.specs.State.{Memory, driverOf, marked}
+use Rattle.model.specs.State.{Memory, inUse, driverOf, marked, hasFlow, hasRead, hasWrite}
 use Rattle.model.specs.StateLaws.{outside-mark}
 use Rattle.model.specs.Effects.{withBytes, objectOf, mark-outside, effect, effects}
 use Rattle.model.specs.Events.{Test, need, Outcome, unless, firstFailing, verdictOf, outcome, mark}
@@ -25,8 +25,9 @@ use Rattle.model.specs.MarkLaws.{where-rest}
 use Rattle.model.specs.TableLaws.{refusals, start-done, by-call}
 use Rattle.model.specs.Trials.{Q}
 use Rattle.containment.specs.Lists.{Item, asks, reports, lent, Standing, Role, starting, marking, other, role, entered, next, run, Admitted, Admissible, begun}
-use Rattle.containment.specs.Claims.{Reached, Containment, Determined, RepeatedMark, NeverUnsound, DriversAbove, OwnOrderAdmissible, SpreadGranted, GrantedUnreached}
-use Rattle.containment.specs.Invariant.{standing, Limits, Invariant, contained}
+use Rattle.containment.specs.Claims.{Reached, Containment, Determined, RepeatedMark, NeverUnsound, FreeBare, DriversAbove, OwnOrderAdmissible, SpreadGranted, GrantedUnreached}
+use Rattle.containment.specs.Tables.{Table, flows, reads, writes, has}
+use Rattle.containment.specs.Invariant.{standing, joined, Limits, Invariant, contained}
 use Rattle.containment.specs.ItemsKeep.{start-keeps, run-keeps}
 use Rattle.containment.specs.Witness.{upward, upward-granted, upward-marks, none-leaves}
 pub use Rattle.containment.specs.Soundness.{leaves-sound}
@@ -109,7 +110,23 @@ repeated-mark o m is r e h = fitted-out s i _ ∙ rw (i .limits .named e h .0, m
     i : Invariant s
     i = reached o m is r
 
--- ---- objects and their drivers
+-- ---- free numbers, and objects and their drivers
+
+pub free-bare : FreeBare
+unfolding hasFlow hasRead hasWrite
+free-bare o m is r x y lx ly free = ((from flows, from reads, from writes), (to flows, to reads, to writes))
+  where
+    s : Standing
+    s = run is (begun o m)
+
+    used : (t : Table) (u v : ℕ) → u < numbers → v < numbers → has t (s .memory) u v ≡ true → (inUse (s .memory) u ≡ true) × (inUse (s .memory) v ≡ true)
+    used t u v lu lv h = joined s t u v (reached o m is r .limits .recorded t u v lu lv h)
+
+    from : (t : Table) → has t (s .memory) x y ≡ false
+    from t = not-so _ (λ h. true≢false (sym (used t x y lx ly h .0) ∙ free))
+
+    to : (t : Table) → has t (s .memory) y x ≡ false
+    to t = not-so _ (λ h. true≢false (sym (used t y x ly lx h .1) ∙ free))
 
 pub drivers-above : DriversAbove
 drivers-above o m is r x l = reached o m is r .limits .bounded x l .driver-above

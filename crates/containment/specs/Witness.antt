@@ -28,6 +28,7 @@ use Rattle.model.specs.SpreadLaws.{rest-closed}
 use Rattle.model.specs.Trials.{orderOf, Q, fresh}
 use Rattle.containment.specs.Lists.{Standing}
 use Rattle.containment.specs.Claims.{Covered}
+use Rattle.containment.specs.Tables.{flows}
 use Rattle.containment.specs.Invariant.{standing, Invariant}
 
 -- after a start under Q: task 1 at level 0, marked from outside, and a flow from it up to the core
@@ -79,7 +80,8 @@ module _ (o : Order) (ts : List ℕ) (i : Invariant (standing o upward ts)) wher
       not-above (levelOf upward t) (eqb-true _ _ low) (c .3)
 
   not-kept : ⊥
-  not-kept = ⊎-elim (not-above (levelOf upward 1) (facts .task-level)) not-covered (i .limits .flows 1 0 (omega arith) (omega arith) (facts .flow-up) .2)
+  unfolding hasFlow
+  not-kept = ⊎-elim (not-above (levelOf upward 1) (facts .task-level)) not-covered (i .limits .recorded flows 1 0 (omega arith) (omega arith) (facts .flow-up) .2)
 
 pub none-leaves : (s : Standing) → Invariant s → s .memory ≡ upward → ⊥
 none-leaves s i e = not-kept (s .order) (s .outside) (subst (λ (m : Memory). Invariant (standing (s .order) m (s .outside))) e i)
