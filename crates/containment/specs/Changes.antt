@@ -20,7 +20,7 @@ use Rattle.model.specs.EffectLaws.{fit-long}
 use Rattle.containment.specs.Lists.{Standing}
 use Rattle.containment.specs.Claims.{Covered}
 use Rattle.containment.specs.Tables.{Table, flows, reads, writes, has}
-use Rattle.containment.specs.Invariant.{standing, Bounded, May, joined, Limits}
+use Rattle.containment.specs.Invariant.{standing, Bounded, May, Limits, joins}
 use Rattle.containment.specs.Follows.{Same, Follows, same-task, same-use, covered-same, covered-follows, bounded-follows, limits-follow}
 
 -- ---- lengths and numbers
@@ -83,8 +83,8 @@ module _ (o : Order) (m n : Memory) (ts : List ℕ) (p : ℕ) (k : Limits (stand
         named = λ t h. h;
         recorded = λ t x y a b h.
             let f = old t x y a b h in
-            let j = joined (standing o m ts) t x y (k .recorded t x y a b (f .0)) in
-            (f .0, same-use (off-same x (f .1)) ∙ j .0, same-use (off-same y (f .2)) ∙ j .1);
+            let j = joins k t x y a b (f .0) in
+            (f .0, (same-use (off-same x (f .1)) ∙ j .0, same-use (off-same y (f .2)) ∙ j .1));
       }
 
   pub one-limits : Follows o m n ts ts → lengthsFit n ≡ true → Bounded (standing o n ts) p → Limits (standing o n ts)
@@ -120,8 +120,8 @@ module _ (o : Order) (m n : Memory) (ts us : List ℕ) (k : Limits (standing o m
         named = more;
         recorded = λ t x y a b h.
             let g : has t m x y ≡ true = rw words at h in
-            let j = joined (standing o m ts) t x y (k .recorded t x y a b g) in
-            (g, same-use (kept-same x) ∙ j .0, same-use (kept-same y) ∙ j .1);
+            let j = joins k t x y a b g in
+            (g, (same-use (kept-same x) ∙ j .0, same-use (kept-same y) ∙ j .1));
       }
 
   -- what is marked is covered, and with a driver its objects are marked

@@ -88,7 +88,7 @@ NeverUnsound = (o : Order) (m : Memory) (is : List Item) → Reached o m is
 abbrev pub Unrecorded : Memory → ℕ → ℕ → Type 0
 Unrecorded m x y = (hasFlow m x y ≡ false) × (hasRead m x y ≡ false) × (hasWrite m x y ≡ false)
 
--- a number that is not in use is bare, in either direction: one given out anew begins with nothing recorded
+-- of a number that is not in use nothing is recorded, in either direction: given out anew, it keeps nothing of an earlier use
 abbrev pub FreeBare : Type 0
 FreeBare = (o : Order) (m : Memory) (is : List Item) → Reached o m is → (x y : ℕ) → x < numbers → y < numbers → inUse (run is (begun o m) .memory) x ≡ false
     → Unrecorded (run is (begun o m) .memory) x y × Unrecorded (run is (begun o m) .memory) y x
@@ -105,11 +105,11 @@ DriversAbove = (o : Order) (m : Memory) (is : List Item) → Reached o m is → 
 
 -- ---- no claim is empty
 
--- any calls and reports at all make a list, if each is lent the order of the start before them
+-- any calls and reports at all may follow a start, if each is lent that start's order; P1 is a start that is granted
 abbrev pub OwnOrderAdmissible : Type 0
 OwnOrderAdmissible = (o : Order) (m : Memory) (is : List Item) → ((i : Item) → List·Memᴰ i is → lent i ≡ o) → Admissible is (begun o m)
 
--- after every list a spread is granted
+-- after every list, a spread under its order is granted
 abbrev pub SpreadGranted : Type 0
 SpreadGranted = (o : Order) (m : Memory) (is : List Item) → Reached o m is
     → perform (run is (begun o m) .order) (run is (begun o m) .memory) Spread .verdict ≡ granted
@@ -120,6 +120,6 @@ pub record Unreached (o : Order) (m : Memory) : Type 0 where
   pub spread-marks : marksSome m ≡ true
   pub no-list : (p : Order) (n : Memory) (is : List Item) → Reached p n is → run is (begun p n) .memory ≡ m → ⊥
 
--- "a spread on any other state": there is one
+-- there is one: SpreadExact speaks of more memories than lists leave
 abbrev pub GrantedUnreached : Type 0
 GrantedUnreached = (o : Order) × (m : Memory) × Unreached o m

@@ -12,7 +12,7 @@ use Rattle.records.specs.Records.{numbers, isTask, isObject}
 use Rattle.model.specs.State.{Memory, lengthsFit, inUse, task, object, levelOf, readLevelOf, driverOf, marked}
 use Rattle.containment.specs.Claims.{Covered}
 use Rattle.containment.specs.Tables.{Table, flows, reads, writes, has}
-use Rattle.containment.specs.Invariant.{standing, Ends, Bounded, May, joined, Limits}
+use Rattle.containment.specs.Invariant.{standing, Ends, Bounded, Joined, May, Limits, joins}
 
 -- what is read of x, but for its marks and its container, is the same
 pub record Same (m n : Memory) (x : ℕ) : Type 0 where
@@ -53,7 +53,7 @@ pub record Follows (o : Order) (m n : Memory) (ts us : List ℕ) : Type 0 where
   pub things : (x : ℕ) → inUse m x ≡ true → inUse n x ≡ true → Same m n x
   pub named : (t : ℕ) → List·Memᴰ t ts → List·Memᴰ t us
   -- what is recorded was recorded, of things still in use
-  pub recorded : (t : Table) (x y : ℕ) → x < numbers → y < numbers → has t n x y ≡ true → (has t m x y ≡ true) × (inUse n x ≡ true) × (inUse n y ≡ true)
+  pub recorded : (t : Table) (x y : ℕ) → x < numbers → y < numbers → has t n x y ≡ true → (has t m x y ≡ true) × Joined n x y
 
 module _ {o : Order} {m n : Memory} {ts us : List ℕ} (f : Follows o m n ts us) where
   pub covered-follows : (l : ℕ) → Covered (standing o m ts) l → Covered (standing o n us) l
@@ -98,9 +98,8 @@ module _ {o : Order} {m n : Memory} {ts us : List ℕ} (f : Follows o m n ts us)
     recorded-follow : (t : Table) (x y : ℕ) → x < numbers → y < numbers → has t n x y ≡ true → May (standing o n us) t x y
     recorded-follow t x y a b h =
         let g = f .recorded t x y a b h in
-        let j = k .recorded t x y a b (g .0) in
-        let u = joined (standing o m ts) t x y j in
-        may-follow t x y b (f .things x (u .0) (g .1)) (f .things y (u .1) (g .2)) j
+        let u = joins k t x y a b (g .0) in
+        may-follow t x y b (f .things x (u .0) (g .1 .0)) (f .things y (u .1) (g .1 .1)) (k .recorded t x y a b (g .0))
 
     pub limits-follow : lengthsFit n ≡ true → ((x : ℕ) → x < numbers → Bounded (standing o n us) x)
         → ((t : ℕ) → List·Memᴰ t us → (task n t ≡ true) × (records.marks (n .bytes) t ≡ 3)) → Limits (standing o n us)

@@ -51,20 +51,20 @@ pub record MayRead (s : Standing) (z x : ℕ) : Type 0 where
 abbrev pub MayFlow : Standing → ℕ → ℕ → Type 0
 MayFlow s x y = (inUse (s .memory) x ≡ true) × (inUse (s .memory) y ≡ true) × Ends s x y
 
--- a recorded write access joins things in use
-abbrev pub MayWrite : Standing → ℕ → ℕ → Type 0
-MayWrite s z x = (inUse (s .memory) z ≡ true) × (inUse (s .memory) x ≡ true)
+-- both are in use
+abbrev pub Joined : Memory → ℕ → ℕ → Type 0
+Joined m x y = (inUse m x ≡ true) × (inUse m y ≡ true)
 
+-- what the limits ask of what is recorded: of a write access only that it joins things in use
 abbrev pub May : Standing → Table → ℕ → ℕ → Type 0
 May s flows x y = MayFlow s x y
 May s reads z x = MayRead s z x
-May s writes z x = MayWrite s z x
+May s writes z x = Joined (s .memory) z x
 
--- and so does whatever is recorded
-pub joined : (s : Standing) (t : Table) (x y : ℕ) → May s t x y → (inUse (s .memory) x ≡ true) × (inUse (s .memory) y ≡ true)
-joined s flows x y a = (a .0, a .1)
-joined s reads z x a = (task-used (s .memory) z (a .reader), object-used (s .memory) x (a .source))
-joined s writes z x a = a
+pub may-join : (s : Standing) (t : Table) (x y : ℕ) → May s t x y → Joined (s .memory) x y
+may-join s flows x y a = (a .0, a .1)
+may-join s reads z x a = (task-used (s .memory) z (a .reader), object-used (s .memory) x (a .source))
+may-join s writes z x a = a
 
 -- what the effects keep, under an order that passes
 pub record Limits (s : Standing) : Type 0 where
@@ -73,6 +73,10 @@ pub record Limits (s : Standing) : Type 0 where
   -- a task that a granted mark named stays marked from outside
   pub named : (t : ℕ) → List·Memᴰ t (s .outside) → (task (s .memory) t ≡ true) × (marks (s .memory .bytes) t ≡ 3)
   pub recorded : (t : Table) (x y : ℕ) → x < numbers → y < numbers → has t (s .memory) x y ≡ true → May s t x y
+
+-- so whatever is recorded joins things in use
+pub joins : {s : Standing} → Limits s → (t : Table) (x y : ℕ) → x < numbers → y < numbers → has t (s .memory) x y ≡ true → Joined (s .memory) x y
+joins {s} k t x y a b h = may-join s t x y (k .recorded t x y a b h)
 
 pub record Invariant (s : Standing) : Type 0 where
   pub passes : orderPasses (s .order) ≡ true
@@ -85,7 +89,7 @@ unfolding hasFlow
 contained s k =
     record {
       marks-covered = λ x l. k .bounded x l .mark-covered;
-      flows-join = λ x y a b h. joined s flows x y (k .recorded flows x y a b h);
+      flows-join = joins k flows;
       flows-end = λ x y a b h. k .recorded flows x y a b h .2;
     }
 

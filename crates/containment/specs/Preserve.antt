@@ -24,7 +24,7 @@ use Rattle.model.specs.EffectLaws.{Long, fit-long, long-fits, effect-long, effe
 use Rattle.containment.specs.Lists.{Standing}
 use Rattle.containment.specs.Claims.{Covered}
 use Rattle.containment.specs.Tables.{Table, flows, reads, writes, row, has, has-added, has-clear}
-use Rattle.containment.specs.Invariant.{standing, Bounded, May, joined, Limits, covered-below}
+use Rattle.containment.specs.Invariant.{standing, Bounded, May, may-join, Limits, joins, covered-below}
 use Rattle.containment.specs.Follows.{Same, Follows, same-task, covered-follows}
 use Rattle.containment.specs.Changes.{words-limits, one-follows, one-limits, marks-follow, marks-limits}
 
@@ -83,7 +83,7 @@ module _ (s : Standing) (ok : IsOrder (s .order)) (k : Limits s) where
 
   record-keeps : (t : Table) (x y : ℕ) → May s t x y → Limits (standing o (withWords m (addCell rowSize (m .words) (row t x) y)) (s .outside))
   record-keeps t x y a =
-      let u = joined s t x y a in
+      let u = may-join s t x y a in
       words-limits s _ k (length-add rowSize (m .words) (row t x) y)
       (λ i v w lv lw h. ⊎-elim (λ e. inl e) (λ (e : (i ≡ t) × (v ≡ x) × (w ≡ y)). inr (rw (e .0, e .1, e .2) a))
       (has-added t x y m long (below x (u .0)) (below y (u .1)) i v w lv lw h))
@@ -102,7 +102,7 @@ module _ (s : Standing) (ok : IsOrder (s .order)) (k : Limits s) where
         one-follows o m (effect e m) (s .outside) n k free-task off (λ h g. true≢false (sym h ∙ free))
         (λ t x y a b h.
         let g : has t m x y ≡ true = rw words at h in
-        let j = joined s t x y (k .recorded t x y a b g) in
+        let j = joins k t x y a b g in
         (g, used-off x (j .0), used-off y (j .1)))
 
     made-keeps : Follows o m (effect e m) (s .outside) (s .outside) → Bounded (after s e) n → Limits (after s e)

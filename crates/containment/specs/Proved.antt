@@ -15,7 +15,7 @@ use Rattle.levels.specs.declared.Order.{Order}
 use Rattle.records.specs.Records.{numbers, recordSize, field, setField}
 use Rattle.model.specs.declared.Call.the-variants.{Start}
 use Rattle.model.specs.Verdicts.{granted, slipped, row-state, row-number, isDone}
-use Rattle.model.specs.State.{Memory, inUse, driverOf, marked, hasFlow, hasRead, hasWrite}
+use Rattle.model.specs.State.{Memory, driverOf, marked, hasFlow, hasRead, hasWrite}
 use Rattle.model.specs.StateLaws.{outside-mark}
 use Rattle.model.specs.Effects.{withBytes, objectOf, mark-outside, effect, effects}
 use Rattle.model.specs.Events.{Test, need, Outcome, unless, firstFailing, verdictOf, outcome, mark}
@@ -27,7 +27,7 @@ use Rattle.model.specs.Trials.{Q}
 use Rattle.containment.specs.Lists.{Item, asks, reports, lent, Standing, Role, starting, marking, other, role, entered, next, run, Admitted, Admissible, begun}
 use Rattle.containment.specs.Claims.{Reached, Containment, Determined, RepeatedMark, NeverUnsound, FreeBare, DriversAbove, OwnOrderAdmissible, SpreadGranted, GrantedUnreached}
 use Rattle.containment.specs.Tables.{Table, flows, reads, writes, has}
-use Rattle.containment.specs.Invariant.{standing, joined, Limits, Invariant, contained}
+use Rattle.containment.specs.Invariant.{standing, Joined, Limits, joins, Invariant, contained}
 use Rattle.containment.specs.ItemsKeep.{start-keeps, run-keeps}
 use Rattle.containment.specs.Witness.{upward, upward-granted, upward-marks, none-leaves}
 pub use Rattle.containment.specs.Soundness.{leaves-sound}
@@ -116,17 +116,17 @@ pub free-bare : FreeBare
 unfolding hasFlow hasRead hasWrite
 free-bare o m is r x y lx ly free = ((from flows, from reads, from writes), (to flows, to reads, to writes))
   where
-    s : Standing
-    s = run is (begun o m)
+    n : Memory
+    n = run is (begun o m) .memory
 
-    used : (t : Table) (u v : ℕ) → u < numbers → v < numbers → has t (s .memory) u v ≡ true → (inUse (s .memory) u ≡ true) × (inUse (s .memory) v ≡ true)
-    used t u v lu lv h = joined s t u v (reached o m is r .limits .recorded t u v lu lv h)
+    joined : (t : Table) (u v : ℕ) → u < numbers → v < numbers → has t n u v ≡ true → Joined n u v
+    joined = joins (reached o m is r .limits)
 
-    from : (t : Table) → has t (s .memory) x y ≡ false
-    from t = not-so _ (λ h. true≢false (sym (used t x y lx ly h .0) ∙ free))
+    from : (t : Table) → has t n x y ≡ false
+    from t = not-so _ (λ h. true≢false (sym (joined t x y lx ly h .0) ∙ free))
 
-    to : (t : Table) → has t (s .memory) y x ≡ false
-    to t = not-so _ (λ h. true≢false (sym (used t y x ly lx h .1) ∙ free))
+    to : (t : Table) → has t n y x ≡ false
+    to t = not-so _ (λ h. true≢false (sym (joined t y x ly lx h .1) ∙ free))
 
 pub drivers-above : DriversAbove
 drivers-above o m is r x l = reached o m is r .limits .bounded x l .driver-above
