@@ -13,13 +13,14 @@ use Rattle.bits.specs.AllLaws.{either}
 use Rattle.levels.specs.declared.Order.{Order}
 use Rattle.records.specs.Records as records
 use Rattle.records.specs.Records.{numbers, field}
-use Rattle.model.specs.State.{Memory, lengthsFit, inUse, task, object, levelOf, driverOf, marked, hasFlow, hasRead}
-use Rattle.model.specs.StateLaws.{task-used, object-used, used-below}
+use Rattle.model.specs.State.{Memory, lengthsFit, inUse, task, object, levelOf, driverOf, marked}
+use Rattle.model.specs.StateLaws.{task-used, used-below}
 use Rattle.model.specs.Effects.{withWords}
 use Rattle.model.specs.EffectLaws.{fit-long}
 use Rattle.containment.specs.Lists.{Standing}
 use Rattle.containment.specs.Claims.{Covered}
-use Rattle.containment.specs.Invariant.{standing, Bounded, MayFlow, MayRead, Limits}
+use Rattle.containment.specs.Tables.{Table, flows, reads, writes, has}
+use Rattle.containment.specs.Invariant.{standing, Bounded, May, Limits, joins}
 use Rattle.containment.specs.Follows.{Same, Follows, same-task, same-use, covered-same, covered-follows, bounded-follows, limits-follow}
 
 -- ---- lengths and numbers
@@ -34,22 +35,23 @@ is-number x p = ⊎-elim (λ e. inl (eqb-true x p e)) (λ e. inr (eqb-false x p 
 -- ---- words
 
 pub words-limits : (s : Standing) (ws : List ℕ) → Limits s → length ws ≡ length (s .memory .words)
-    → ((x y : ℕ) → x < numbers → y < numbers → hasFlow (withWords (s .memory) ws) x y ≡ true → (hasFlow (s .memory) x y ≡ true) ⊎ MayFlow s x y)
-    → ((z x : ℕ) → z < numbers → x < numbers → hasRead (withWords (s .memory) ws) z x ≡ true → (hasRead (s .memory) z x ≡ true) ⊎ MayRead s z x)
+    → ((t : Table) (x y : ℕ) → x < numbers → y < numbers → has t (withWords (s .memory) ws) x y ≡ true → (has t (s .memory) x y ≡ true) ⊎ May s t x y)
     → Limits (standing (s .order) (withWords (s .memory) ws) (s .outside))
 unfolding task object inUse marked
-words-limits s ws k l flows reads =
+words-limits s ws k l each =
     record {
       fits = fits-same (s .memory) (withWords (s .memory) ws) refl l (k .fits);
       bounded = λ x a.
           let b = k .bounded x a in
           record { driver-task = b .driver-task; driver-above = b .driver-above; driven-marked = b .driven-marked; mark-covered = b .mark-covered };
       named = k .named;
-      flows = λ x y a b h. ⊎-elim (k .flows x y a b) (λ g. g) (flows x y a b h);
-      reads = λ z x a b h.
-          let r = ⊎-elim (k .reads z x a b) (λ (g : MayRead s z x). g) (reads z x a b h) in
-          record { reader = r .reader; source = r .source; path = r .path; honest = r .honest };
+      recorded = λ t x y a b h. still t x y (⊎-elim (k .recorded t x y a b) (λ g. g) (each t x y a b h));
     }
+  where
+    still : (t : Table) (x y : ℕ) → May s t x y → May (standing (s .order) (withWords (s .memory) ws) (s .outside)) t x y
+    still flows x y j = j
+    still reads z x j = record { reader = j .reader; source = j .source; path = j .path; honest = j .honest }
+    still writes z x j = j
 
 -- ---- the record of one number p that is no task, and is free before or after
 
@@ -72,21 +74,17 @@ module _ (o : Order) (m n : Memory) (ts : List ℕ) (p : ℕ) (k : Limits (stand
   task-marked x h = off-marked x (off-task x h)
 
   pub one-follows : (inUse m p ≡ true → inUse n p ≡ true → ⊥)
-      → ((x y : ℕ) → x < numbers → y < numbers → hasFlow n x y ≡ true → (hasFlow m x y ≡ true) × (x ≡ p → ⊥) × (y ≡ p → ⊥))
-      → ((z x : ℕ) → z < numbers → x < numbers → hasRead n z x ≡ true → (hasRead m z x ≡ true) × (x ≡ p → ⊥)) → Follows o m n ts ts
-  one-follows apart flows reads =
+      → ((t : Table) (x y : ℕ) → x < numbers → y < numbers → has t n x y ≡ true → (has t m x y ≡ true) × (x ≡ p → ⊥) × (y ≡ p → ⊥)) → Follows o m n ts ts
+  one-follows apart old =
       record {
         tasks = task-same;
         marks = λ x h g. task-marked x h ∙ g;
         things = λ x h g. ⊎-elim (λ (e : x ≡ p). absurd (apart (rw e at h) (rw e at g))) (off-same x) (is-number x p);
         named = λ t h. h;
-        flows = λ x y a b h.
-            let f = flows x y a b h in
-            let j = k .flows x y a b (f .0) in
-            inl (f .0, same-use (off-same x (f .1)) ∙ j .0, same-use (off-same y (f .2)) ∙ j .1);
-        reads = λ z x a b h.
-            let f = reads z x a b h in
-            inl (f .0, same-use (off-same x (f .1)) ∙ object-used m x (k .reads z x a b (f .0) .source));
+        recorded = λ t x y a b h.
+            let f = old t x y a b h in
+            let j = joins k t x y a b (f .0) in
+            (f .0, (same-use (off-same x (f .1)) ∙ j .0, same-use (off-same y (f .2)) ∙ j .1));
       }
 
   pub one-limits : Follows o m n ts ts → lengthsFit n ≡ true → Bounded (standing o n ts) p → Limits (standing o n ts)
@@ -114,20 +112,16 @@ module _ (o : Order) (m n : Memory) (ts us : List ℕ) (k : Limits (standing o m
   kept-same x = record { kind = kept x 0 (omega arith); level = kept x 1 (omega arith); read-level = kept x 2 (omega arith); driver = kept x 3 (omega arith) }
 
   pub marks-follow : Follows o m n ts us
-  unfolding hasFlow hasRead
   marks-follow =
       record {
         tasks = λ x h. kept-same x;
         marks = λ x h. grow x (used-below m x (fit-long m (k .fits) .bytes-long) (task-used m x h));
         things = λ x h g. kept-same x;
         named = more;
-        flows = λ x y a b h.
-            let g : hasFlow m x y ≡ true = rw words at h in
-            let j = k .flows x y a b g in
-            inl (g, same-use (kept-same x) ∙ j .0, same-use (kept-same y) ∙ j .1);
-        reads = λ z x a b h.
-            let g : hasRead m z x ≡ true = rw words at h in
-            inl (g, same-use (kept-same x) ∙ object-used m x (k .reads z x a b g .source));
+        recorded = λ t x y a b h.
+            let g : has t m x y ≡ true = rw words at h in
+            let j = joins k t x y a b g in
+            (g, (same-use (kept-same x) ∙ j .0, same-use (kept-same y) ∙ j .1));
       }
 
   -- what is marked is covered, and with a driver its objects are marked

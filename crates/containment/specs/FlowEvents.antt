@@ -10,13 +10,14 @@ use Rattle.levels.specs.declared.Order.{Order}
 use Rattle.levels.specs.Order.{atOrBelow}
 use Rattle.levels.specs.OrderLaws.{IsOrder}
 use Rattle.records.specs.Records.{numbers}
-use Rattle.model.specs.State.{Memory, inUse, task, levelOf, driverOf, marked, hasFlow}
+use Rattle.model.specs.State.{Memory, inUse, task, levelOf, driverOf, marked, hasFlow, hasRead}
 use Rattle.model.specs.StateLaws.{task-used, object-used, used-below}
 use Rattle.model.specs.Effects.{effect}
 use Rattle.model.specs.EffectLaws.{fit-long}
 use Rattle.model.specs.Events.{read, write, callTask, invoke, pass, post, find, fed, step}
 use Rattle.model.specs.TableLaws.{Holds}
 use Rattle.containment.specs.Lists.{Standing}
+use Rattle.containment.specs.Tables.{flows, reads}
 use Rattle.containment.specs.Invariant.{Ends, Limits, ends-trans, to-marked, under-marked, fed-covered, read-ends}
 use Rattle.containment.specs.Preserve.{AllAllowed}
 
@@ -83,39 +84,39 @@ module _ (s : Standing) (ok : IsOrder (s .order)) (k : Limits s) where
       ((ua, ub, inl (h .1 .0)), (λ g. (ub, ua, to-marked s ok k b a g), tt))
 
   pub pass-allowed : (z x y : ℕ) → Holds (pass o m z x y .tests) → AllAllowed s (pass o m z x y .effects)
-  unfolding pass
+  unfolding pass hasFlow hasRead
   pass-allowed z x y h =
       let t = simp and-eq-true-iff at (h .0) in
       let f = simp and-eq-true-iff at (h .1 .1 .0) in
       let lz = below z (task-used m z (t .0 .0)) in
       let ux = object-used m x (t .0 .1) in
-      let xz = read-ends s ok k z x (k .reads z x lz (below x ux) (f .1)) (h .1 .1 .1 .0) in
-      ((ux, t .1, ends-trans s ok x z y xz (k .flows z y lz (below y (t .1)) (f .0) .2)), tt)
+      let xz = read-ends s ok k z x (k .recorded reads z x lz (below x ux) (f .1)) (h .1 .1 .1 .0) in
+      ((ux, t .1, ends-trans s ok x z y xz (k .recorded flows z y lz (below y (t .1)) (f .0) .2)), tt)
 
   pub post-allowed : (x z y : ℕ) → Holds (post o m x z y .tests) → AllAllowed s (post o m x z y .effects)
-  unfolding post
+  unfolding post hasFlow hasRead
   post-allowed x z y h =
       let t = simp and-eq-true-iff at (h .0) in
       let f = simp and-eq-true-iff at (h .1 .1 .0) in
       let ux = task-used m x (t .0 .0) in
       let lz = below z (object-used m z (t .0 .1)) in
       let uy = task-used m y (t .1) in
-      let zy = read-ends s ok k y z (k .reads y z (below y uy) lz (f .1)) (h .1 .1 .1 .0) in
-      ((ux, uy, ends-trans s ok x z y (k .flows x z (below x ux) lz (f .0) .2) zy), tt)
+      let zy = read-ends s ok k y z (k .recorded reads y z (below y uy) lz (f .1)) (h .1 .1 .1 .0) in
+      ((ux, uy, ends-trans s ok x z y (k .recorded flows x z (below x ux) lz (f .0) .2) zy), tt)
 
   pub find-allowed : (x z y : ℕ) → Holds (find o m x z y .tests) → AllAllowed s (find o m x z y .effects)
-  unfolding find
+  unfolding find hasFlow
   find-allowed x z y h =
       let t = simp and-eq-true-iff at (h .0) in
       let f = simp and-eq-true-iff at (h .1 .1 .0) in
       let ux = task-used m x (t .0 .0) in
       let lz = below z (task-used m z (t .0 .1)) in
-      ((ux, t .1, ends-trans s ok x z y (k .flows x z (below x ux) lz (f .0) .2) (k .flows z y lz (below y (t .1)) (f .1) .2)), tt)
+      ((ux, t .1, ends-trans s ok x z y (k .recorded flows x z (below x ux) lz (f .0) .2) (k .recorded flows z y lz (below y (t .1)) (f .1) .2)), tt)
 
   pub step-allowed : (x : ℕ) → Holds (step o m x .tests) → AllAllowed s (step o m x .effects)
-  unfolding step fed
+  unfolding step fed hasFlow
   step-allowed x h =
       let t = simp and-eq-true-iff at (h .1 .0) in
       let a = any-at numbers (λ y. marked m y && hasFlow m y x) (t .1) in
       let f = simp and-eq-true-iff at (a .2) in
-      (fed-covered s ok k (a .0) x (f .0) (k .flows (a .0) x (a .1) (below x (h .0)) (f .1) .2), tt)
+      (fed-covered s ok k (a .0) x (f .0) (k .recorded flows (a .0) x (a .1) (below x (h .0)) (f .1) .2), tt)

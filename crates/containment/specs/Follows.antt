@@ -2,17 +2,17 @@
 -- Assumes nothing.
 use mathlib.Core.Path.{_≡_, refl, sym, _∙_}
 use mathlib.Core.Bool.{Bool, true, false, _||_}
-use mathlib.Core.Logic.{_⊎_, inl, inr, ⊎-elim}
+use mathlib.Core.Logic.{inl, inr}
 use mathlib.Core.List.{List, List·Memᴰ}
 use Prim.Native.Nat.{ℕ, _<_}
 use Rattle.levels.specs.declared.Order.{Order}
 use Rattle.levels.specs.Order.{atOrBelow}
 use Rattle.records.specs.Records as records
 use Rattle.records.specs.Records.{numbers, isTask, isObject}
-use Rattle.model.specs.StateLaws.{object-used}
-use Rattle.model.specs.State.{Memory, lengthsFit, inUse, task, object, levelOf, readLevelOf, driverOf, marked, hasFlow, hasRead}
+use Rattle.model.specs.State.{Memory, lengthsFit, inUse, task, object, levelOf, readLevelOf, driverOf, marked}
 use Rattle.containment.specs.Claims.{Covered}
-use Rattle.containment.specs.Invariant.{standing, Ends, Bounded, MayFlow, MayRead, Limits}
+use Rattle.containment.specs.Tables.{Table, flows, reads, writes, has}
+use Rattle.containment.specs.Invariant.{standing, Ends, Bounded, Joined, May, Limits, joins}
 
 -- what is read of x, but for its marks and its container, is the same
 pub record Same (m n : Memory) (x : ℕ) : Type 0 where
@@ -52,11 +52,8 @@ pub record Follows (o : Order) (m n : Memory) (ts us : List ℕ) : Type 0 where
   -- what is in use before and after stays what it was
   pub things : (x : ℕ) → inUse m x ≡ true → inUse n x ≡ true → Same m n x
   pub named : (t : ℕ) → List·Memᴰ t ts → List·Memᴰ t us
-  -- a flow and a read access were there, or keep the limits
-  pub flows : (x y : ℕ) → x < numbers → y < numbers → hasFlow n x y ≡ true
-      → ((hasFlow m x y ≡ true) × (inUse n x ≡ true) × (inUse n y ≡ true)) ⊎ MayFlow (standing o n us) x y
-  pub reads : (z x : ℕ) → z < numbers → x < numbers → hasRead n z x ≡ true
-      → ((hasRead m z x ≡ true) × (inUse n x ≡ true)) ⊎ MayRead (standing o n us) z x
+  -- what is recorded was recorded, of things still in use
+  pub recorded : (t : Table) (x y : ℕ) → x < numbers → y < numbers → has t n x y ≡ true → (has t m x y ≡ true) × Joined n x y
 
 module _ {o : Order} {m n : Memory} {ts us : List ℕ} (f : Follows o m n ts us) where
   pub covered-follows : (l : ℕ) → Covered (standing o m ts) l → Covered (standing o n us) l
@@ -82,33 +79,28 @@ module _ {o : Order} {m n : Memory} {ts us : List ℕ} (f : Follows o m n ts us)
       }
 
   module _ (k : Limits (standing o m ts)) where
-    flows-follow : (x y : ℕ) → x < numbers → y < numbers → hasFlow n x y ≡ true → MayFlow (standing o n us) x y
-    flows-follow x y a b h = ⊎-elim old (λ g. g) (f .flows x y a b h)
-      where
-        old : (hasFlow m x y ≡ true) × (inUse n x ≡ true) × (inUse n y ≡ true) → MayFlow (standing o n us) x y
-        old g =
-            let j = k .flows x y a b (g .0) in
-            (g .1, g .2, ends-follows x y (f .things x (j .0) (g .1)) (f .things y (j .1) (g .2)) (j .2))
+    -- what might be recorded of things that stay may be so still
+    may-follow : (t : Table) (x y : ℕ) → y < numbers → Same m n x → Same m n y → May (standing o m ts) t x y → May (standing o n us) t x y
+    may-follow flows x y b ex ey j = (same-use ex ∙ j .0, same-use ey ∙ j .1, ends-follows x y ex ey (j .2))
+    may-follow reads z x b ez ex j =
+        let d = driverOf m x in
+        let td = k .bounded x b .driver-task (j .source) in
+        let ed = f .tasks d td in
+        record {
+          reader = same-task ez ∙ j .reader;
+          source = same-object ex ∙ j .source;
+          path = rw (ex .driver, ed .level, ez .level, ez .read-level) (j .path);
+          honest = rw (ex .driver, ex .level, ez .level, ez .read-level)
+              (or-more (atOrBelow o (levelOf m z) (levelOf m x) || atOrBelow o (readLevelOf m z) (levelOf m x)) (f .marks d td) (j .honest));
+        }
+    may-follow writes z x b ez ex j = (same-use ez ∙ j .0, same-use ex ∙ j .1)
 
-    reads-follow : (z x : ℕ) → z < numbers → x < numbers → hasRead n z x ≡ true → MayRead (standing o n us) z x
-    reads-follow z x a b h = ⊎-elim old (λ g. g) (f .reads z x a b h)
-      where
-        old : (hasRead m z x ≡ true) × (inUse n x ≡ true) → MayRead (standing o n us) z x
-        old g =
-            let j = k .reads z x a b (g .0) in
-            let d = driverOf m x in
-            let td = k .bounded x b .driver-task (j .source) in
-            let ez = f .tasks z (j .reader) in
-            let ex = f .things x (object-used m x (j .source)) (g .1) in
-            let ed = f .tasks d td in
-            record {
-              reader = same-task ez ∙ j .reader;
-              source = same-object ex ∙ j .source;
-              path = rw (ex .driver, ed .level, ez .level, ez .read-level) (j .path);
-              honest = rw (ex .driver, ex .level, ez .level, ez .read-level)
-                  (or-more (atOrBelow o (levelOf m z) (levelOf m x) || atOrBelow o (readLevelOf m z) (levelOf m x)) (f .marks d td) (j .honest));
-            }
+    recorded-follow : (t : Table) (x y : ℕ) → x < numbers → y < numbers → has t n x y ≡ true → May (standing o n us) t x y
+    recorded-follow t x y a b h =
+        let g = f .recorded t x y a b h in
+        let u = joins k t x y a b (g .0) in
+        may-follow t x y b (f .things x (u .0) (g .1 .0)) (f .things y (u .1) (g .1 .1)) (k .recorded t x y a b (g .0))
 
     pub limits-follow : lengthsFit n ≡ true → ((x : ℕ) → x < numbers → Bounded (standing o n us) x)
         → ((t : ℕ) → List·Memᴰ t us → (task n t ≡ true) × (records.marks (n .bytes) t ≡ 3)) → Limits (standing o n us)
-    limits-follow l b t = record { fits = l; bounded = b; named = t; flows = flows-follow; reads = reads-follow }
+    limits-follow l b t = record { fits = l; bounded = b; named = t; recorded = recorded-follow }

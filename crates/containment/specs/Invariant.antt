@@ -11,13 +11,14 @@ use Rattle.levels.specs.declared.Order.{Order}
 use Rattle.levels.specs.Order.{atOrBelow, orderPasses}
 use Rattle.levels.specs.OrderLaws.{IsOrder}
 use Rattle.records.specs.Records.{numbers, marks, sound}
-use Rattle.model.specs.State.{Memory, lengthsFit, inUse, task, object, levelOf, readLevelOf, driverOf, marked, hasFlow, hasRead}
-use Rattle.model.specs.StateLaws.{marked-below}
+use Rattle.model.specs.State.{Memory, lengthsFit, inUse, task, object, levelOf, readLevelOf, driverOf, marked, hasFlow}
+use Rattle.model.specs.StateLaws.{task-used, object-used, marked-below}
 use Rattle.model.specs.EffectLaws.{fit-long}
 use Rattle.model.specs.Events.{risky}
 use Rattle.model.specs.RiskLaws.{past-object, past-driver}
 use Rattle.containment.specs.Lists.{Standing}
 use Rattle.containment.specs.Claims.{Covered, Contained}
+use Rattle.containment.specs.Tables.{Table, flows, reads, writes, has}
 
 -- where a list stands, by its parts
 abbrev pub standing : Order → Memory → List ℕ → Standing
@@ -50,14 +51,32 @@ pub record MayRead (s : Standing) (z x : ℕ) : Type 0 where
 abbrev pub MayFlow : Standing → ℕ → ℕ → Type 0
 MayFlow s x y = (inUse (s .memory) x ≡ true) × (inUse (s .memory) y ≡ true) × Ends s x y
 
+-- both are in use
+abbrev pub Joined : Memory → ℕ → ℕ → Type 0
+Joined m x y = (inUse m x ≡ true) × (inUse m y ≡ true)
+
+-- what the limits ask of what is recorded: of a write access only that it joins things in use
+abbrev pub May : Standing → Table → ℕ → ℕ → Type 0
+May s flows x y = MayFlow s x y
+May s reads z x = MayRead s z x
+May s writes z x = Joined (s .memory) z x
+
+pub may-join : (s : Standing) (t : Table) (x y : ℕ) → May s t x y → Joined (s .memory) x y
+may-join s flows x y a = (a .0, a .1)
+may-join s reads z x a = (task-used (s .memory) z (a .reader), object-used (s .memory) x (a .source))
+may-join s writes z x a = a
+
 -- what the effects keep, under an order that passes
 pub record Limits (s : Standing) : Type 0 where
   pub fits : lengthsFit (s .memory) ≡ true
   pub bounded : (x : ℕ) → x < numbers → Bounded s x
   -- a task that a granted mark named stays marked from outside
   pub named : (t : ℕ) → List·Memᴰ t (s .outside) → (task (s .memory) t ≡ true) × (marks (s .memory .bytes) t ≡ 3)
-  pub flows : (x y : ℕ) → x < numbers → y < numbers → hasFlow (s .memory) x y ≡ true → MayFlow s x y
-  pub reads : (z x : ℕ) → z < numbers → x < numbers → hasRead (s .memory) z x ≡ true → MayRead s z x
+  pub recorded : (t : Table) (x y : ℕ) → x < numbers → y < numbers → has t (s .memory) x y ≡ true → May s t x y
+
+-- so whatever is recorded joins things in use
+pub joins : {s : Standing} → Limits s → (t : Table) (x y : ℕ) → x < numbers → y < numbers → has t (s .memory) x y ≡ true → Joined (s .memory) x y
+joins {s} k t x y a b h = may-join s t x y (k .recorded t x y a b h)
 
 pub record Invariant (s : Standing) : Type 0 where
   pub passes : orderPasses (s .order) ≡ true
@@ -66,11 +85,12 @@ pub record Invariant (s : Standing) : Type 0 where
 
 -- demand 3 is a part of it
 pub contained : (s : Standing) → Limits s → Contained s
+unfolding hasFlow
 contained s k =
     record {
       marks-covered = λ x l. k .bounded x l .mark-covered;
-      flows-join = λ x y a b h. (k .flows x y a b h .0, k .flows x y a b h .1);
-      flows-end = λ x y a b h. k .flows x y a b h .2;
+      flows-join = joins k flows;
+      flows-end = λ x y a b h. k .recorded flows x y a b h .2;
     }
 
 -- ---- how the limits follow from one another

@@ -19,7 +19,7 @@ use Rattle.records.specs.KeepLaws.{field-zero}
 use Rattle.model.specs.declared.Call.{Call}
 use Rattle.model.specs.declared.Call.the-variants.{Start, Read, Write, Execute, Create, CreateRoot, Move, Delete, CallTask, Invoke, Pass, Post, Find, Mark, Step, Spread}
 use Rattle.model.specs.Verdicts.{isDone}
-use Rattle.model.specs.State.{Memory, memory, rowSize, tables, lengthsFit, inUse, task, object, levelOf, driverOf, marked, hasFlow, hasRead}
+use Rattle.model.specs.State.{Memory, memory, rowSize, tables, lengthsFit, inUse, task, object, levelOf, driverOf, marked, hasFlow}
 use Rattle.model.specs.StateLaws.{outside-mark}
 use Rattle.model.specs.EffectLaws.{fit-long}
 use Rattle.model.specs.Effects.{make-task, effect, effects}
@@ -32,6 +32,7 @@ use Rattle.model.specs.TableLaws.{Holds, refusals, event-done, fitted-done, sta
 use Rattle.containment.specs.Lists.{Item, asks, reports, Standing, Role, starting, marking, other, role, entered, next, run, Admitted, Admissible}
 use Rattle.containment.specs.Claims.{Covered}
 use Rattle.containment.specs.Soundness.{leaves-sound}
+use Rattle.containment.specs.Tables.{flows, row}
 use Rattle.containment.specs.Invariant.{standing, Limits, Invariant, covered-below}
 use Rattle.containment.specs.Changes.{marks-limits}
 use Rattle.containment.specs.Preserve.{AllAllowed, bounded-none, effect-keeps, effects-keep, outside-keeps}
@@ -44,14 +45,13 @@ empty : Memory
 empty = memory (replicate (recordSize * numbers) 0) (replicate (rowSize * (numbers * tables)) 0)
 
 empty-limits : (o : Order) → Limits (standing o empty [])
-unfolding lengthsFit object isObject marked hasFlow hasRead empty
+unfolding lengthsFit object isObject marked empty
 empty-limits o =
     record {
       fits = and-i (eq-eqb _ _ (length-replicate {A = ℕ} (recordSize * numbers) 0)) (eq-eqb _ _ (length-replicate {A = ℕ} (rowSize * (numbers * tables)) 0));
       bounded = λ x l. bounded-none (standing o empty []) x (rw (field-zero _ x 0)) (rw (field-zero _ x 5));
       named = λ t h. absurd (List·Memᴰ·not-nil h);
-      flows = λ x y a b h. absurd (true≢false (sym h ∙ cell-zeros rowSize (rowSize * (numbers * tables)) _ y));
-      reads = λ z x a b h. absurd (true≢false (sym h ∙ cell-zeros rowSize (rowSize * (numbers * tables)) _ x));
+      recorded = λ t x y a b h. absurd (true≢false (sym h ∙ cell-zeros rowSize (rowSize * (numbers * tables)) (row t x) y));
     }
 
 started-limits : (o : Order) → IsOrder o → Limits (standing o (started o) [])
@@ -66,6 +66,7 @@ start-keeps o m h =
 -- ---- a spread marks only what is covered, and rests with every driver's objects marked
 
 spread-limits : (s : Standing) → IsOrder (s .order) → Limits s → Limits (standing (s .order) (spread (s .memory) .memory) (s .outside))
+unfolding hasFlow
 spread-limits s ok k =
     marks-limits (s .order) m n (s .outside) (s .outside) k (g .words-kept) kept (λ x l. kept-marked g x) (λ t h. h) (g .length-kept)
     (λ x l h. spread-only Q m closed sized (λ y a b. (a, k .bounded y a .mark-covered b)) x l h .1)
@@ -93,7 +94,7 @@ spread-limits s ok k =
     closed : Closed m Q
     closed =
         record {
-          by-flow = λ x y q l u f. (l, ⊎-elim (λ h. covered-below s ok _ _ h (q .1)) (λ c. c) (k .flows x y (q .0) l f .2));
+          by-flow = λ x y q l u f. (l, ⊎-elim (λ h. covered-below s ok _ _ h (q .1)) (λ c. c) (k .recorded flows x y (q .0) l f .2));
           by-driver = λ x y q l h d. (l, covered-below s ok _ _ (k .bounded y l .driver-above h) (rw d (q .1)));
         }
 

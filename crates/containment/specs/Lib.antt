@@ -2,6 +2,7 @@ pub mod Lists
 pub mod Chains
 pub mod Claims
 pub mod Soundness
+pub mod Tables
 pub mod Invariant
 pub mod Follows
 pub mod Changes
@@ -10,4 +11,5 @@ pub mod FlowEvents
 pub mod RecordEvents
 pub mod ItemsKeep
 pub mod SpreadProof
+pub mod Witness
 pub mod Proved

@@ -17,6 +17,10 @@ pub data Item : Type 0 where
   asks : Order → Call → Item
   reports : Order → Item
 
+abbrev pub lent : Item → Order
+lent (asks o c) = o
+lent (reports o) = o
+
 -- where a list stands: the order of the last granted start, the memory left, and the tasks that a granted mark has named since that start
 pub record Standing : Type 0 where
   pub order : Order

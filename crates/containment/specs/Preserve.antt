@@ -9,19 +9,22 @@ use lib.Dec.{eqb}
 use borrow.Author.Tests.{eqb-true, eqb-false, eq-eqb, ne-eqb, not-true}
 use native.Mathlib.Omega.{arith}
 use Rattle.bits.specs.AllLaws.{or-cases, or-l, or-r, and-i, not-so}
+use Rattle.rows.specs.Rows.{addCell}
+use Rattle.rows.specs.RowLaws.{length-add}
 use Rattle.levels.specs.declared.Order.{Order}
 use Rattle.levels.specs.Order.{atOrBelow}
 use Rattle.levels.specs.OrderLaws.{IsOrder}
 use Rattle.records.specs.Records as records
 use Rattle.records.specs.Records.{numbers, field}
-use Rattle.model.specs.State.{Memory, inUse, task, object, levelOf, driverOf, marked, hasFlow, hasRead}
+use Rattle.model.specs.State.{Memory, rowSize, inUse, task, object, levelOf, driverOf, marked}
 use Rattle.model.specs.StateLaws.{task-used, object-used, object-task, outside-mark, used-below}
-use Rattle.model.specs.Effects.{Effect, flow, flow-if, read-access, write-access, make-task, make-object, move-to, clear, mark-outside, mark-thing, objectOf, effect, effects}
+use Rattle.model.specs.Effects.{Effect, flow, flow-if, read-access, write-access, make-task, make-object, move-to, clear, mark-outside, mark-thing, objectOf, withWords, effect, effects}
 use Rattle.model.specs.MarkLaws.{where-words, where-field, where-kept}
-use Rattle.model.specs.EffectLaws.{Long, fit-long, long-fits, Fits, effect-long, effect-bytes, effect-words, flow-after, read-after, byte-after, inUse-after, object-after, level-after, driver-after, marks-after, marked-after, outside-marks, outside-marked, thing-marked}
+use Rattle.model.specs.EffectLaws.{Long, fit-long, long-fits, effect-long, effect-bytes, byte-after, inUse-after, object-after, level-after, driver-after, marks-after, marked-after, outside-marks, outside-marked, thing-marked}
 use Rattle.containment.specs.Lists.{Standing}
 use Rattle.containment.specs.Claims.{Covered}
-use Rattle.containment.specs.Invariant.{standing, Bounded, MayFlow, MayRead, Limits, covered-below}
+use Rattle.containment.specs.Tables.{Table, flows, reads, writes, row, has, has-added, has-clear}
+use Rattle.containment.specs.Invariant.{standing, Bounded, May, may-join, Limits, joins, covered-below}
 use Rattle.containment.specs.Follows.{Same, Follows, same-task, covered-follows}
 use Rattle.containment.specs.Changes.{words-limits, one-follows, one-limits, marks-follow, marks-limits}
 
@@ -38,10 +41,10 @@ pub record MayMake (s : Standing) (n l d : ℕ) (b : Bool) : Type 0 where
 
 -- what the limits ask of an effect; marking from outside names one more task, and stands apart
 abbrev pub Allowed : Standing → Effect → Type 0
-Allowed s (flow x y) = MayFlow s x y
-Allowed s (flow-if b x y) = b ≡ true → MayFlow s x y
-Allowed s (read-access z x) = MayRead s z x
-Allowed s (write-access z x) = (inUse (s .memory) z ≡ true) × (inUse (s .memory) x ≡ true)
+Allowed s (flow x y) = May s flows x y
+Allowed s (flow-if b x y) = b ≡ true → May s flows x y
+Allowed s (read-access z x) = May s reads z x
+Allowed s (write-access z x) = May s writes z x
 Allowed s (make-task n l r) = (n < numbers) × (inUse (s .memory) n ≡ false)
 Allowed s (make-object n l d c b) = MayMake s n l d b
 Allowed s (move-to x c) = object (s .memory) x ≡ true
@@ -52,16 +55,6 @@ Allowed s (mark-thing x) = Covered s (levelOf (s .memory) x)
 abbrev pub AllAllowed : Standing → List Effect → Type 0
 AllAllowed s [] = Unit {0}
 AllAllowed s (e ∷ es) = Allowed s e × AllAllowed (after s e) es
-
--- ---- flows and accesses
-
-added : (P : ℕ → ℕ → Type 0) (b : Bool) (u v x y : ℕ) → P x y → (b || (eqb u x && eqb v y)) ≡ true → (b ≡ true) ⊎ P u v
-added P b u v x y p h = ⊎-elim (λ e. inl e) new (or-cases b (eqb u x && eqb v y) h)
-  where
-    new : (eqb u x && eqb v y) ≡ true → (b ≡ true) ⊎ P u v
-    new e =
-        let d = simp and-eq-true-iff at e in
-        inr (rw (eqb-true u x (d .0), eqb-true v y (d .1)) p)
 
 -- a record that is no object and has no mark
 pub bounded-none : (s : Standing) (x : ℕ) → object (s .memory) x ≡ false → marked (s .memory) x ≡ false → Bounded s x
@@ -86,32 +79,14 @@ module _ (s : Standing) (ok : IsOrder (s .order)) (k : Limits s) where
   below : (x : ℕ) → inUse m x ≡ true → x < numbers
   below x = used-below m x (long .bytes-long)
 
-  flow-keeps : (x y : ℕ) → MayFlow s x y → Limits (after s (flow x y))
-  unfolding effect
-  flow-keeps x y a =
-      words-limits s _ k (effect-words (flow x y) m)
-      (λ u v lu lv h. added (MayFlow s) _ u v x y a (sym (flow-after u v lu lv (flow x y) m long fits) ∙ h))
-      (λ z u lz lu h. inl (sym (read-after z u lz lu (flow x y) m long fits) ∙ h))
-    where
-      fits : Fits (flow x y)
-      fits = (below x (a .0), below y (a .1))
+  -- ---- a flow or an access is recorded
 
-  read-keeps : (z x : ℕ) → MayRead s z x → Limits (after s (read-access z x))
-  unfolding effect
-  read-keeps z x a =
-      words-limits s _ k (effect-words (read-access z x) m)
-      (λ u v lu lv h. inl (sym (flow-after u v lu lv (read-access z x) m long fits) ∙ h))
-      (λ u v lu lv h. added (MayRead s) _ u v z x a (sym (read-after u v lu lv (read-access z x) m long fits) ∙ h))
-    where
-      fits : Fits (read-access z x)
-      fits = (below z (task-used m z (a .reader)), below x (object-used m x (a .source)))
-
-  write-keeps : (z x : ℕ) → inUse m z ≡ true → inUse m x ≡ true → Limits (after s (write-access z x))
-  unfolding effect
-  write-keeps z x a b =
-      words-limits s _ k (effect-words (write-access z x) m)
-      (λ u v lu lv h. inl (sym (flow-after u v lu lv (write-access z x) m long (below z a, below x b)) ∙ h))
-      (λ u v lu lv h. inl (sym (read-after u v lu lv (write-access z x) m long (below z a, below x b)) ∙ h))
+  record-keeps : (t : Table) (x y : ℕ) → May s t x y → Limits (standing o (withWords m (addCell rowSize (m .words) (row t x) y)) (s .outside))
+  record-keeps t x y a =
+      let u = may-join s t x y a in
+      words-limits s _ k (length-add rowSize (m .words) (row t x) y)
+      (λ i v w lv lw h. ⊎-elim (λ e. inl e) (λ (e : (i ≡ t) × (v ≡ x) × (w ≡ y)). inr (rw (e .0, e .1, e .2) a))
+      (has-added t x y m long (below x (u .0)) (below y (u .1)) i v w lv lw h))
 
   -- ---- a free number becomes a task or an object
 
@@ -123,14 +98,12 @@ module _ (s : Standing) (ok : IsOrder (s .order)) (k : Limits s) where
     free-task = not-so (task m n) (λ h. true≢false (sym (task-used m n h) ∙ free))
 
     made-follows : effect e m .words ≡ m .words → Follows o m (effect e m) (s .outside) (s .outside)
-    unfolding hasFlow hasRead
     made-follows words =
         one-follows o m (effect e m) (s .outside) n k free-task off (λ h g. true≢false (sym h ∙ free))
-        (λ x y a b h.
-        let g : hasFlow m x y ≡ true = rw words at h in
-        let j = k .flows x y a b g in
+        (λ t x y a b h.
+        let g : has t m x y ≡ true = rw words at h in
+        let j = joins k t x y a b g in
         (g, used-off x (j .0), used-off y (j .1)))
-        (λ z x a b h. let g : hasRead m z x ≡ true = rw words at h in (g, used-off x (object-used m x (k .reads z x a b g .source))))
 
     made-keeps : Follows o m (effect e m) (s .outside) (s .outside) → Bounded (after s e) n → Limits (after s e)
     made-keeps f here = one-limits o m (effect e m) (s .outside) n k free-task off f (long-fits (effect-long e long)) here
@@ -201,8 +174,7 @@ module _ (s : Standing) (ok : IsOrder (s .order)) (k : Limits s) where
     clear-follows =
         one-follows o m (effect (clear x) m) (s .outside) x k (object-task m x h) (clear-off x object-below)
         (λ g i. true≢false (sym i ∙ inUse-after x (clear x) m long object-below ∙ rw (eq-eqb x x refl)))
-        (λ u v lu lv g. cut (hasFlow m u v) u v (sym (flow-after u v lu lv (clear x) m long object-below) ∙ g))
-        (λ u v lu lv g. let c = cut (hasRead m u v) u v (sym (read-after u v lu lv (clear x) m long object-below) ∙ g) in (c .0, c .2))
+        (λ t u v lu lv g. cut (has t m u v) u v (sym (has-clear x m long object-below t u v lu lv) ∙ g))
       where
         cut : (b : Bool) (u v : ℕ) → (b && not (eqb u x) && not (eqb v x)) ≡ true → (b ≡ true) × (u ≡ x → ⊥) × (v ≡ x → ⊥)
         cut b u v g =
@@ -325,11 +297,11 @@ module _ (s : Standing) (ok : IsOrder (s .order)) (k : Limits s) where
 
   pub effect-keeps : (e : Effect) → Allowed s e → Limits (after s e)
   unfolding effect
-  effect-keeps (flow x y) a = flow-keeps x y a
-  effect-keeps (flow-if true x y) a = flow-keeps x y (a refl)
+  effect-keeps (flow x y) a = record-keeps flows x y a
+  effect-keeps (flow-if true x y) a = record-keeps flows x y (a refl)
   effect-keeps (flow-if false x y) a = k
-  effect-keeps (read-access z x) a = read-keeps z x a
-  effect-keeps (write-access z x) a = write-keeps z x (a .0) (a .1)
+  effect-keeps (read-access z x) a = record-keeps reads z x a
+  effect-keeps (write-access z x) a = record-keeps writes z x a
   effect-keeps (make-task n l r) a = task-keeps n l r (a .0) (a .1)
   effect-keeps (make-object n l d c b) a = object-keeps n l d c b a
   effect-keeps (move-to x c) a = move-keeps x a c

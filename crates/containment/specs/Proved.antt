@@ -1,20 +1,21 @@
 -- The claims of demand 3, proved: those about lists here, that a done call leaves sound bytes and that a spread is exact in files of their own.
 -- Assumes nothing.
-use mathlib.Core.Path.{_≡_, sym, ap, _∙_}
-use mathlib.Core.Bool.{Bool, true, false, cond, and-eq-true-iff}
-use mathlib.Core.List.{List, [], _∷_, List·Memᴰ}
+use mathlib.Core.Path.{_≡_, refl, sym, ap, _∙_}
+use mathlib.Core.Bool.{Bool, true, false, cond, and-eq-true-iff, true≢false}
+use mathlib.Core.Logic.{inr, ⊎-elim}
+use mathlib.Core.List.{List, [], _∷_, List·Memᴰ, List·Memᴰ·head, List·Memᴰ·tail}
 use Prim.Native.Nat.{ℕ, _+_, _*_, _<_}
 use native.Mathlib.Omega.{arith}
 use lib.Dec.{leb}
 use lib.ListN.{set}
 use lib.Seq.{set-getD}
 use borrow.Author.Tests.{eqb-true, leb-true}
-use Rattle.bits.specs.AllLaws.{and-l, and-r}
+use Rattle.bits.specs.AllLaws.{either, and-l, and-r, not-so}
 use Rattle.levels.specs.declared.Order.{Order}
 use Rattle.records.specs.Records.{numbers, recordSize, field, setField}
 use Rattle.model.specs.declared.Call.the-variants.{Start}
 use Rattle.model.specs.Verdicts.{granted, slipped, row-state, row-number, isDone}
-use Rattle.model.specs.State.{Memory, driverOf, marked}
+use Rattle.model.specs.State.{Memory, driverOf, marked, hasFlow, hasRead, hasWrite}
 use Rattle.model.specs.StateLaws.{outside-mark}
 use Rattle.model.specs.Effects.{withBytes, objectOf, mark-outside, effect, effects}
 use Rattle.model.specs.Events.{Test, need, Outcome, unless, firstFailing, verdictOf, outcome, mark}
@@ -22,10 +23,13 @@ use Rattle.model.specs.Spread.{spread}
 use Rattle.model.specs.Monitor.{refusedUnless, fitted, start, started, perform}
 use Rattle.model.specs.MarkLaws.{where-rest}
 use Rattle.model.specs.TableLaws.{refusals, start-done, by-call}
-use Rattle.containment.specs.Lists.{Item, Standing, run, begun}
-use Rattle.containment.specs.Claims.{Reached, Containment, Determined, RepeatedMark, NeverUnsound}
-use Rattle.containment.specs.Invariant.{standing, Limits, Invariant, contained}
+use Rattle.model.specs.Trials.{Q}
+use Rattle.containment.specs.Lists.{Item, asks, reports, lent, Standing, Role, starting, marking, other, role, entered, next, run, Admitted, Admissible, begun}
+use Rattle.containment.specs.Claims.{Reached, Containment, Determined, RepeatedMark, NeverUnsound, FreeBare, DriversAbove, OwnOrderAdmissible, SpreadGranted, GrantedUnreached}
+use Rattle.containment.specs.Tables.{Table, flows, reads, writes, has}
+use Rattle.containment.specs.Invariant.{standing, Joined, Limits, joins, Invariant, contained}
 use Rattle.containment.specs.ItemsKeep.{start-keeps, run-keeps}
+use Rattle.containment.specs.Witness.{upward, upward-granted, upward-marks, none-leaves}
 pub use Rattle.containment.specs.Soundness.{leaves-sound}
 pub use Rattle.containment.specs.SpreadProof.{spread-exact}
 
@@ -105,3 +109,59 @@ repeated-mark o m is r e h = fitted-out s i _ ∙ rw (i .limits .named e h .0, m
 
     i : Invariant s
     i = reached o m is r
+
+-- ---- free numbers, and objects and their drivers
+
+pub free-bare : FreeBare
+unfolding hasFlow hasRead hasWrite
+free-bare o m is r x y lx ly free = ((from flows, from reads, from writes), (to flows, to reads, to writes))
+  where
+    n : Memory
+    n = run is (begun o m) .memory
+
+    joined : (t : Table) (u v : ℕ) → u < numbers → v < numbers → has t n u v ≡ true → Joined n u v
+    joined = joins (reached o m is r .limits)
+
+    from : (t : Table) → has t n x y ≡ false
+    from t = not-so _ (λ h. true≢false (sym (joined t x y lx ly h .0) ∙ free))
+
+    to : (t : Table) → has t n y x ≡ false
+    to t = not-so _ (λ h. true≢false (sym (joined t y x ly lx h .1) ∙ free))
+
+pub drivers-above : DriversAbove
+drivers-above o m is r x l = reached o m is r .limits .bounded x l .driver-above
+
+-- ---- no claim is empty
+
+admitted : (i : Item) (s : Standing) → lent i ≡ s .order → Admitted i s
+admitted (asks o c) s e = inr (λ h. e)
+admitted (reports o) s e = tt
+
+-- a call under the order that stands leaves it standing
+next-order : (i : Item) (s : Standing) → lent i ≡ s .order → next i s .order ≡ s .order
+unfolding next entered
+next-order (asks o c) s e = ⊎-elim (λ h. rw h (go (role c))) (λ h. rw h) (either (isDone (perform o (s .memory) c .verdict)))
+  where
+    go : (r : Role) → entered r o (perform o (s .memory) c .memory) s .order ≡ s .order
+    go starting = e
+    go (marking t) = refl
+    go other = refl
+next-order (reports o) s e = refl
+
+under-one : (o : Order) (is : List Item) (s : Standing) → s .order ≡ o → ((i : Item) → List·Memᴰ i is → lent i ≡ o) → Admissible is s
+under-one o [] s e l = tt
+under-one o (i ∷ is) s e l =
+    let h = l i (List·Memᴰ·head refl) ∙ sym e in
+    (admitted i s h, under-one o is (next i s) (next-order i s h ∙ e) (λ j k. l j (List·Memᴰ·tail k)))
+
+pub own-order-admissible : OwnOrderAdmissible
+unfolding begun
+own-order-admissible o m is = under-one o is (begun o m) refl
+
+pub spread-granted : SpreadGranted
+unfolding spread
+spread-granted o m is r = ap (λ (out : Outcome). out .verdict) (fitted-out (run is (begun o m)) (reached o m is r) (spread (run is (begun o m) .memory)))
+
+pub granted-unreached : GrantedUnreached
+granted-unreached =
+    (Q, upward, record { spread-granted = upward-granted; spread-marks = upward-marks; no-list = λ o m is r. none-leaves (run is (begun o m)) (reached o m is r) })
