@@ -7,6 +7,7 @@ use Prim.Native.Nat.{ℕ, _+_, _/_, _%_, min, max}
 use lib.Dec.{ltb}
 use lib.ListN.{length}
 use lib.Seq.{sets}
+use Rattle.script.specs.Script.{space}
 use Rattle.script.specs.declared.print.Reply.{Reply}
 use Rattle.script.specs.declared.print.Reply.the-variants.{Bad, Verdict, Rounds}
 
@@ -20,14 +21,15 @@ decimal n =
     (cond (ltb n 100) (digit (n / 10) ∷ digit (n % 10) ∷ [])
     (digit (n / 100) ∷ digit (n / 10 % 10) ∷ digit (n % 10) ∷ []))
 
-abbrev pub lineFeed : List ℕ
-lineFeed = 10 ∷ []
+-- what ends a line
+abbrev pub lineFeed : ℕ
+lineFeed = 10
 
 -- bad; a verdict; a verdict and rounds
 unfoldable pub replyLine : Reply → List ℕ
-replyLine Bad = 98 ∷ 97 ∷ 100 ∷ lineFeed
-replyLine (Verdict v) = decimal v ++ lineFeed
-replyLine (Rounds v r) = decimal v ++ (32 ∷ []) ++ decimal r ++ lineFeed
+replyLine Bad = 98 ∷ 97 ∷ 100 ∷ lineFeed ∷ []
+replyLine (Verdict v) = decimal v ++ lineFeed ∷ []
+replyLine (Rounds v r) = decimal v ++ (space ∷ []) ++ decimal r ++ lineFeed ∷ []
 
 -- the text was stored from `at` on as far as there is room, and ends at `end`; past the end nothing is stored
 pub record Printed (before : List ℕ) (at : ℕ) (text after : List ℕ) (end : ℕ) : Type 0 where

@@ -1,34 +1,39 @@
--- What stands in the program's buffers: the first bytes of a line, and what is not written yet.
+-- What stands in the program's buffers. Of `line` what is kept of the open line counts, of `out` what is not written yet; the rest of both is free.
 -- Assumes nothing.
 use mathlib.Core.Path.{_≡_}
 use mathlib.Core.List.{List}
-use Prim.Native.Nat.{ℕ}
+use Prim.Native.Nat.{ℕ, _+_, _*_, _≤_}
 use lib.ListN.{length, take}
 use Rattle.model.specs.State.{memory}
-use Rattle.trail.specs.Script.{Progress}
-use Rattle.trail.specs.Pieces.{lineSize, Fed, unfed, fed, emptied}
-use Rattle.trail.specs.declared.pieces.State.{State}
+use Rattle.trail.specs.Script.{Progress, atEnd}
+use Rattle.trail.specs.Feeding.{lineSize, Reading, nothingFed, afterPiece, finished, emptied}
+use Rattle.trail.specs.declared.lines.Run.{Run}
+use Rattle.trail.specs.declared.feeding.State.{State}
 
--- room for the answers to the longest piece
-abbrev pub outSize : ℕ
-outSize = 131072
+-- the most bytes that answer a line, and that the line of marked numbers has
+abbrev pub answerSize : ℕ
+answerSize = 8
 
-abbrev pub Sized : List ℕ → List ℕ → Type 0
-Sized line out = (length line ≡ lineSize) × (length out ≡ outSize)
+abbrev pub markedSize : ℕ
+markedSize = 1024
 
--- how far the script has come, by what is not written yet and the lent memory
-abbrev pub progressIn : State → List ℕ → List ℕ → List ℕ → Progress
-progressIn s out bs ws = record { printed = take (s .used) out; run = s .run; memory = memory bs ws }
+-- there is room for the answers to a piece, each of which answers at least one byte, and for the end
+abbrev pub Sized : List ℕ → List ℕ → List ℕ → Type 0
+Sized input line out = (length line ≡ lineSize) × (answerSize * length input ≤ length out) × (answerSize + markedSize ≤ length out)
 
--- with what is kept of the open line
-abbrev pub fedIn : State → List ℕ → List ℕ → List ℕ → List ℕ → Fed
-fedIn s line out bs ws = record { line = take (s .filled) line; progress = progressIn s out bs ws }
+abbrev pub progressIn : Run → ℕ → List ℕ → List ℕ → List ℕ → Progress
+progressIn r used out bs ws = record { printed = take used out; run = r; memory = memory bs ws }
 
--- some piece, or none, was fed between the two, and all that was printed is written
-pub record FedSome (f g : Fed) : Type 0 where
-  pub piece : List ℕ
-  pub leaves : emptied g ≡ emptied (fed piece f)
+abbrev pub readingIn : State → List ℕ → List ℕ → List ℕ → List ℕ → Reading
+readingIn s line out bs ws = record { line = take (s .filled) line; progress = progressIn (s .run) (s .used) out bs ws }
 
--- an input was fed from the first byte on
-abbrev pub FedAll : Fed → Type 0
-FedAll f = FedSome unfed f
+-- some input, fed from its first byte on, leaves r, and all that it printed is written
+pub record SomeInput (r : Reading) : Type 0 where
+  pub input : List ℕ
+  pub leaves : r ≡ emptied (afterPiece input nothingFed)
+
+-- the memory is that of a script at its end, and what it prints last is left to be written
+pub record SomeScript (used : ℕ) (out bs ws : List ℕ) : Type 0 where
+  pub input : List ℕ
+  pub ends : memory bs ws ≡ atEnd input .memory
+  pub left : take used out ≡ finished (emptied (afterPiece input nothingFed)) .printed

@@ -2,37 +2,52 @@
 -- Assumes nothing.
 use mathlib.Core.Path.{_≡_}
 use mathlib.Core.Logic.{_⊎_}
+use mathlib.Core.Bool.{true}
 use mathlib.Core.List.{List, [], _∷_, _++_}
 use Prim.Native.Nat.{ℕ, _<_}
 use Rattle.levels.specs.declared.Order.{Order}
 use Rattle.levels.specs.Order.{mostLevels}
+use Rattle.records.specs.Records.{numbers}
 use Rattle.model.specs.declared.Call.the-variants.{Start}
-use Rattle.model.specs.State.{Memory}
+use Rattle.model.specs.State.{marked}
 use Rattle.model.specs.Verdicts.{row-order}
-use Rattle.script.specs.Script.{noOrder, readLine, tooMany}
+use Rattle.model.specs.Monitor.{raised, report}
+use Rattle.script.specs.Script.{noOrder, startWord, pieces, isNumber, value, readLine}
+use Rattle.script.specs.Print.{replyLine}
 use Rattle.script.specs.declared.Line.{Line}
 use Rattle.script.specs.declared.Line.the-variants.{Bad, Starts, Asks}
 use Rattle.script.specs.declared.print.Reply.the-variants.{Verdict}
 use Rattle.containment.specs.Lists as lists
 use Rattle.containment.specs.Lists.{Item, asks, Standing, begun}
 use Rattle.containment.specs.Claims.{Reached, Contained}
-use Rattle.trail.specs.Lines.{lineDone}
+use Rattle.trail.specs.Marked.{isMarked}
 use Rattle.trail.specs.Script.{Progress, lines, zeros, nothingRead, afterLine, atEnd, output}
-use Rattle.trail.specs.Pieces.{Fed, unfed, fed, written}
+use Rattle.trail.specs.Feeding.{Reading, nothingFed, afterPiece, closed, written}
 
 -- ---- what is printed does not depend on how the input comes in pieces
 
+-- the pieces one after the other
 abbrev pub joined : List (List ℕ) → List ℕ
 joined [] = []
 joined (c ∷ cs) = c ++ joined cs
 
 -- feeding two pieces one after the other is feeding them joined
-abbrev pub FedJoined : Type 0
-FedJoined = (c d : List ℕ) (f : Fed) → fed (c ++ d) f ≡ fed d (fed c f)
+abbrev pub PiecesJoined : Type 0
+PiecesJoined = (c d : List ℕ) (r : Reading) → afterPiece (c ++ d) r ≡ afterPiece d (afterPiece c r)
 
--- and all that is written is the script's output, long lines too, of which only the first bytes are kept
+-- all that is written is the script's output, also where only the first bytes of a long line are kept
 abbrev pub InPieces : Type 0
-InPieces = (cs : List (List ℕ)) → written cs unfed ≡ output (joined cs)
+InPieces = (cs : List (List ℕ)) → written cs nothingFed ≡ output (joined cs)
+
+-- and the end is the script's: what it printed, what it keeps and the memory
+abbrev pub EndsAlike : Type 0
+EndsAlike = (input : List ℕ) → closed (afterPiece input nothingFed) ≡ atEnd input
+
+-- ---- the last line lists exactly what is marked
+
+abbrev pub ListsMarked : Type 0
+ListsMarked = (input : List ℕ) (x : ℕ) → x < numbers
+    → isMarked (report (atEnd input .run .order) (atEnd input .memory)) x ≡ marked (atEnd input .memory) x
 
 -- ---- what a script runs is a list of demand 3
 
@@ -42,38 +57,49 @@ callsBy kept o Bad = []
 callsBy kept o Starts = asks o Start ∷ []
 callsBy kept o (Asks c) = asks kept c ∷ []
 
-unfoldable pub calls : List (List ℕ) → Progress → List Item
-calls [] p = []
-calls (l ∷ ls) p = callsBy (p .run .order) (readLine l .order) (readLine l .line) ++ calls ls (afterLine l p)
+unfoldable pub callsOf : List (List ℕ) → Progress → List Item
+callsOf [] p = []
+callsOf (l ∷ ls) p = callsBy (p .run .order) (readLine l .order) (readLine l .line) ++ callsOf ls (afterLine l p)
 
--- where the list of a script's calls stands at its end
-unfoldable pub standing : List ℕ → Standing
-standing input = lists.run (calls (lines input) nothingRead) (record { order = noOrder; memory = zeros; outside = [] })
+abbrev pub calls : List ℕ → List Item
+calls input = callsOf (lines input) nothingRead
 
--- a list stands where one begun by a granted start leaves it
-pub record Begun (s : Standing) : Type 0 where
+-- where a list stands that begins on the memory of zeros, before and after
+abbrev pub unstarted : Standing
+unstarted = record { order = noOrder; memory = zeros; outside = [] }
+
+unfoldable pub standing : List Item → Standing
+standing is = lists.run is unstarted
+
+-- from one of its granted starts on, this is a list of demand 3
+pub record Begun (is : List Item) : Type 0 where
+  pub earlier : List Item
   pub order : Order
-  pub before : Memory
   pub items : List Item
-  pub reached : Reached order before items
-  pub leaves : lists.run items (begun order before) ≡ s
+  pub parts : is ≡ earlier ++ asks order Start ∷ items
+  pub reached : Reached order (standing earlier .memory) items
+  pub leaves : standing is ≡ lists.run items (begun order (standing earlier .memory))
 
--- the memory and the order that a script ends with are those of the list of its calls; it was never started, or the list is one of demand 3
+-- the memory and the order that a script ends with are those that the list of its calls leaves; either no start was granted, or the list
+-- is one of demand 3 from a granted start on
 pub record IsList (input : List ℕ) : Type 0 where
-  pub memory : atEnd input .memory ≡ standing input .memory
-  pub order : atEnd input .run .order ≡ standing input .order
-  pub started : (standing input .memory ≡ zeros) ⊎ Begun (standing input)
+  pub memory : atEnd input .memory ≡ standing (calls input) .memory
+  pub order : atEnd input .run .order ≡ standing (calls input) .order
+  pub started : (standing (calls input) ≡ unstarted) ⊎ Begun (calls input)
 
 abbrev pub RunsLists : Type 0
 RunsLists = (input : List ℕ) → IsList input
 
--- and so contained
+-- so what a script ends with is contained
 abbrev pub ScriptContained : Type 0
-ScriptContained = (input : List ℕ) → (atEnd input .memory ≡ zeros) ⊎ Contained (standing input)
+ScriptContained = (input : List ℕ) → Contained (standing (calls input))
 
--- ---- a start whose count is over sixteen gives 3 and does nothing
+-- ---- a start whose count is over sixteen gives 3, whatever follows the count, is counted as refused and changes nothing else
 
 abbrev pub OverSixteen : Type 0
-OverSixteen = (input l : List ℕ) (n : ℕ) → mostLevels < n → readLine l ≡ tooMany n
-    → (lineDone (atEnd input .memory) (atEnd input .run) l .done .reply ≡ Verdict row-order)
-    × (lineDone (atEnd input .memory) (atEnd input .run) l .memory ≡ atEnd input .memory)
+OverSixteen = (input l count : List ℕ) (rest : List (List ℕ)) → pieces l ≡ startWord ∷ count ∷ rest → isNumber count ≡ true → mostLevels < value count
+    → afterLine l (atEnd input) ≡ record {
+      printed = atEnd input .printed ++ replyLine (Verdict row-order);
+      run = record { order = atEnd input .run .order; tally = raised (atEnd input .run .tally) row-order };
+      memory = atEnd input .memory;
+    }

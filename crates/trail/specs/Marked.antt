@@ -7,19 +7,21 @@ use lib.ListN.{getD}
 use Rattle.bits.specs.Bit.{bit}
 use Rattle.records.specs.Records.{numbers}
 use Rattle.model.specs.declared.Report.{Report}
+use Rattle.script.specs.Script.{space}
 use Rattle.script.specs.Print.{decimal, lineFeed}
 
 -- marked
-unfoldable pub markedWord : List ℕ
-markedWord = 109 ∷ 97 ∷ 114 ∷ 107 ∷ 101 ∷ 100 ∷ []
+unfoldable pub markedText : List ℕ
+markedText = 109 ∷ 97 ∷ 114 ∷ 107 ∷ 101 ∷ 100 ∷ []
 
 -- those of the first k numbers that pass, rising, a space before each
 unfoldable pub listed : (ℕ → Bool) → ℕ → List ℕ
 listed p zero = []
-listed p (suc k) = listed p k ++ cond (p k) (32 ∷ decimal k) []
+listed p (suc k) = listed p k ++ cond (p k) (space ∷ decimal k) []
 
+-- the report has the bit of x
 abbrev pub isMarked : Report → ℕ → Bool
 isMarked r x = bit (getD (r .words) (x / 64) 0) (x % 64)
 
 unfoldable pub markedLine : Report → List ℕ
-markedLine r = markedWord ++ listed (isMarked r) numbers ++ lineFeed
+markedLine r = markedText ++ listed (isMarked r) numbers ++ lineFeed ∷ []

@@ -18,7 +18,7 @@ use Rattle.model.specs.Monitor.{nextMarked}
 use Rattle.marking.specs.FirstLaws.{First, first}
 use Rattle.script.specs.Print.{decimal, lineFeed, Printed}
 use Rattle.script.specs.PrintLaws.{then, small}
-use Rattle.trail.specs.Marked.{markedWord, listed, isMarked, markedLine}
+use Rattle.trail.specs.Marked.{markedText, listed, isMarked, markedLine}
 
 -- numbers that do not pass add nothing
 listed-same : (p : ℕ → Bool) (n k : ℕ) → ((j : ℕ) → n ≤ j → j < n + k → p j ≡ false) → listed p (n + k) ≡ listed p n
@@ -84,10 +84,10 @@ one-more {r} {n = n} u h p q i =
       marked = i .marked;
     }
 
-pub all-listed : {r : Report} {l m m′ m″ : List ℕ} {from at e e′ n : ℕ} → Printed l from markedWord m at → UpTo r m at m′ e n → 128 ≤ n → Printed m′ e lineFeed m″ e′ → Printed l from (markedLine r) m″ e′
+pub all-listed : {r : Report} {l m m′ m″ : List ℕ} {from at e e′ n : ℕ} → Printed l from markedText m at → UpTo r m at m′ e n → 128 ≤ n → Printed m′ e (lineFeed ∷ []) m″ e′ → Printed l from (markedLine r) m″ e′
 unfolding markedLine
 all-listed {n = n} p u h q = let z : n ≡ 128 = omega (arith, u .within) in rw (← z) (then (then p (u .text)) q)
 
 pub marked-short : (r : Report) → length (markedLine r) ≤ 1024
-unfolding markedLine markedWord
-marked-short r = omega (arith, length-append (markedWord ++ listed (isMarked r) 128) lineFeed, length-append markedWord (listed (isMarked r) 128), listed-short (isMarked r) 128)
+unfolding markedLine markedText
+marked-short r = omega (arith, length-append (markedText ++ listed (isMarked r) 128) (lineFeed ∷ []), length-append markedText (listed (isMarked r) 128), listed-short (isMarked r) 128)

@@ -2,41 +2,50 @@
 -- Assumes nothing.
 use mathlib.Core.Path.{_≡_, refl, sym, ap, _∙_}
 use mathlib.Core.Logic.{_⊎_, inl, inr, ⊎-elim}
-use mathlib.Core.Bool.{Bool, true, false, cond, true≢false}
-use mathlib.Core.List.{List, [], _∷_, _++_}
-use Prim.Native.Nat.{ℕ, _*_, _<_}
+use mathlib.Core.Bool.{Bool, true, false, cond, true≢false, _&&_}
+use mathlib.Core.List.{List, [], _∷_, _++_, append-assoc, append-nil}
+use Prim.Native.Nat.{ℕ, zero, suc, _+_, _*_, _/_, _%_, _<_}
 use native.Mathlib.Omega.{arith}
+use native.Mathlib.Nat.{mod-lt, div-add-mod, div-lt-iff-lt-mul}
 use lib.Dec.{eqb}
-use lib.ListN.{replicate, length-replicate}
+use lib.ListN.{getD, replicate, length-replicate}
 use borrow.Author.Tests.{eq-eqb, eqb-true, lt-leb}
+use Rattle.bits.specs.Bit.{bit}
+use Rattle.bits.specs.BitLaws.{bit-zero, bit-word}
 use Rattle.bits.specs.AllLaws.{either, not-so, and-i, and-false}
+use Rattle.rows.specs.RowLaws.{cell-zeros}
 use Rattle.levels.specs.declared.Order.{Order}
 use Rattle.levels.specs.Order.{mostLevels, countFits, orderPasses}
-use Rattle.records.specs.Records.{numbers, recordSize, isTask}
+use Rattle.records.specs.Records.{numbers, recordSize, sound}
 use Rattle.records.specs.RecordLaws.{core-task}
 use Rattle.records.specs.KeepLaws.{field-zero}
 use Rattle.model.specs.declared.Call.{Call}
-use Rattle.model.specs.declared.Call.the-variants.{Start}
+use Rattle.model.specs.declared.Call.the-variants.{Start, Spread}
 use Rattle.model.specs.Verdicts.{granted, isDone, row-state, row-order}
-use Rattle.model.specs.State.{Memory, rowSize, tables, lengthsFit}
+use Rattle.model.specs.State.{Memory, rowSize, tables, lengthsFit, marked, hasFlow}
 use Rattle.model.specs.Events.{Outcome, outcome}
 use Rattle.model.specs.Spread.{spread}
-use Rattle.model.specs.Monitor.{refusal, refusedUnless, fitted, start, perform}
-use Rattle.model.specs.TableLaws.{fitted-done, start-done, by-call, refused-keeps}
-use Rattle.script.specs.Script.{noOrder, readLine, tooMany}
+use Rattle.model.specs.Monitor.{refusal, refusedUnless, fitted, start, perform, markedWord, markedWords, noReport, report}
+use Rattle.model.specs.TableLaws.{Fitted, fitted-done, start-done, by-call, refused-keeps}
+use Rattle.script.specs.Script.{noOrder, startWord, pieces, isNumber, value, sameWord, startOf, lineOf, readLine, tooMany}
 use Rattle.script.specs.declared.Line.{Line}
 use Rattle.script.specs.declared.Line.the-variants.{Bad, Starts, Asks}
 use Rattle.containment.specs.Lists.{Item, asks, Standing, Role, starting, marking, other, role, entered, next, run, Admitted, Admissible, begun}
-use Rattle.containment.specs.Proved.{containment, never-unsound}
+use Rattle.containment.specs.Claims.{Contained}
+use Rattle.containment.specs.Proved.{containment, spread-granted}
 use Rattle.trail.specs.Lines.{answered, asked, startedWith, doneBy, lineDone}
+use Rattle.trail.specs.Marked.{isMarked}
 use Rattle.trail.specs.Script.{Progress, lines, zeros, nothingRead, afterLine, afterLines, atEnd}
-use Rattle.trail.specs.Pieces.{unfed}
-use Rattle.trail.specs.PiecesLaws.{written-is, whole}
-use Rattle.trail.specs.Claims.{joined, InPieces, callsBy, calls, standing, Begun, RunsLists, ScriptContained, OverSixteen}
-pub use Rattle.trail.specs.PiecesLaws.{fed-joined}
+use Rattle.trail.specs.Feeding.{nothingFed}
+use Rattle.trail.specs.FeedingLaws.{written-is, whole, closed-whole}
+use Rattle.trail.specs.Claims.{joined, InPieces, EndsAlike, ListsMarked, callsBy, callsOf, calls, unstarted, standing, Begun, RunsLists, ScriptContained, OverSixteen}
+pub use Rattle.trail.specs.FeedingLaws.{pieces-joined}
 
 pub in-pieces : InPieces
-in-pieces cs = written-is cs unfed ∙ whole (joined cs)
+in-pieces cs = written-is cs nothingFed ∙ whole (joined cs)
+
+pub ends-alike : EndsAlike
+ends-alike input = closed-whole input
 
 -- ---- a call more
 
@@ -45,22 +54,25 @@ unfolding run
 run-append [] js s = refl
 run-append (i ∷ is) js s = run-append is js (next i s)
 
+run-more : (is : List Item) (i : Item) (s : Standing) → run (is ++ i ∷ []) s ≡ next i (run is s)
+run-more is i s = run-append is (i ∷ []) s ∙ (unfold run in refl)
+
 admissible-more : (is : List Item) (i : Item) (s : Standing) → Admissible is s → Admitted i (run is s) → Admissible (is ++ i ∷ []) s
 unfolding run
 admissible-more [] i s a h = (h, tt)
 admissible-more (j ∷ is) i s a h = (a .0, admissible-more is i (next j s) (a .1) h)
 
-begun-more : (s : Standing) → Begun s → (i : Item) → Admitted i s → Begun (next i s)
-begun-more s b i a =
+begun-more : (is : List Item) → Begun is → (i : Item) → Admitted i (standing is) → Begun (is ++ i ∷ [])
+unfolding standing
+begun-more is b i a =
+    let s = begun (b .order) (run (b .earlier) unstarted .memory) in
     record {
+      earlier = b .earlier;
       order = b .order;
-      before = b .before;
       items = b .items ++ i ∷ [];
-      reached = record {
-        granted-start = b .reached .granted-start;
-        admissible = admissible-more (b .items) i (begun (b .order) (b .before)) (b .reached .admissible) (rw (b .leaves) a);
-      };
-      leaves = run-append (b .items) (i ∷ []) (begun (b .order) (b .before)) ∙ rw (b .leaves) (unfold run in refl);
+      parts = rw (b .parts) (append-assoc (b .earlier) (asks (b .order) Start ∷ b .items) (i ∷ []));
+      reached = record { granted-start = b .reached .granted-start; admissible = admissible-more (b .items) i s (b .reached .admissible) (rw (← b .leaves) a) };
+      leaves = run-more is i unstarted ∙ rw (b .leaves) (sym (run-more (b .items) i s));
     }
 
 refused-next : (o : Order) (c : Call) (s : Standing) → isDone (perform o (s .memory) c .verdict) ≡ false → next (asks o c) s ≡ s
@@ -103,33 +115,38 @@ start-order o s =
 
 -- ---- before the first granted start, and after it
 
-nothing : Standing
-nothing = record { order = noOrder; memory = zeros; outside = [] }
-
 -- zeros have no core
-zeros-unfit : (out : Outcome) → isDone (fitted noOrder zeros out .verdict) ≡ false
+zeros-unsound : sound noOrder (zeros .bytes) ≡ true → ⊥
 unfolding zeros
-zeros-unfit out = not-so _ (λ h. omega (arith, core-task noOrder _ (fitted-done noOrder zeros out h .sound-bytes), field-zero (recordSize * numbers) 0 0))
+zeros-unsound h = omega (arith, core-task noOrder _ h, field-zero (recordSize * numbers) 0 0)
+
+zeros-unfit : (out : Outcome) → isDone (fitted noOrder zeros out .verdict) ≡ false
+zeros-unfit out = not-so _ (λ h. zeros-unsound (fitted-done noOrder zeros out h .sound-bytes))
 
 none-done : (c : Call) → isDone (perform noOrder zeros c .verdict) ≡ false
 unfolding orderPasses countFits
 none-done = by-call (λ out. isDone (out .verdict) ≡ false) noOrder zeros
     (not-so _ (λ h. true≢false (sym (start-done noOrder zeros h .1)))) (λ e r. zeros-unfit (outcome zeros e)) (zeros-unfit (spread zeros))
 
-abbrev Stands : Standing → Type 0
-Stands s = (s ≡ nothing) ⊎ Begun s
+abbrev Stands : List Item → Type 0
+Stands is = (standing is ≡ unstarted) ⊎ Begun is
 
-first-start : (o : Order) → Stands (next (asks o Start) nothing)
-first-start o =
+refused-more : (is : List Item) (o : Order) (c : Call) → standing is ≡ unstarted → isDone (perform o zeros c .verdict) ≡ false → standing (is ++ asks o c ∷ []) ≡ unstarted
+unfolding standing
+refused-more is o c e h = run-more is (asks o c) unstarted ∙ rw e (refused-next o c unstarted h)
+
+first-start : (is : List Item) (o : Order) → standing is ≡ unstarted → Stands (is ++ asks o Start ∷ [])
+first-start is o e =
     elim (either (isDone (perform o zeros Start .verdict))) [
       | inl h ↦ inr (record {
+        earlier = is;
         order = o;
-        before = zeros;
         items = [];
-        reached = record { granted-start = start-granted o zeros h; admissible = tt };
-        leaves = unfold run begun next nothing entered in rw h;
+        parts = refl;
+        reached = record { granted-start = rw e (start-granted o zeros h); admissible = tt };
+        leaves = unfold standing in run-more is (asks o Start) unstarted ∙ rw e (unfold run begun next entered in rw h);
       })
-      | inr h ↦ inl (unfold nothing in refused-next o Start _ h)
+      | inr h ↦ inl (refused-more is o Start e h)
     ]
 
 -- ---- a line, and all lines
@@ -137,73 +154,119 @@ first-start o =
 abbrev Agree : Progress → Standing → Type 0
 Agree p s = (p .memory ≡ s .memory) × (p .run .order ≡ s .order)
 
-line-runs : (k : Line) (o : Order) (p : Progress) (s : Standing) → Agree p s → Stands s
-    → (doneBy (p .memory) (p .run) o k .memory ≡ run (callsBy (p .run .order) o k) s .memory)
-    × (doneBy (p .memory) (p .run) o k .done .run .order ≡ run (callsBy (p .run .order) o k) s .order)
-    × Stands (run (callsBy (p .run .order) o k) s)
-unfolding doneBy callsBy run startedWith asked answered
-line-runs Bad o p s a b = (a .0, a .1, b)
-line-runs Starts o p s a b = (
-  rw (a .0) (sym (next-memory o Start s)),
-  rw (a .0, a .1) (sym (start-order o s)),
-  ⊎-elim (λ e. rw e (first-start o)) (λ g. inr (begun-more s g (asks o Start) (inl refl))) b,
-)
-line-runs (Asks c) o p s a b = (
-  rw (a .0, a .1) (sym (next-memory (s .order) c s)),
-  rw (a .1) (sym (next-order c s)),
-  rw (a .1) (⊎-elim (λ e. inl (rw e (unfold nothing in refused-next noOrder c _ (none-done c)))) (λ g. inr (begun-more s g (asks (s .order) c) (inr (λ d. refl)))) b),
-)
+line-runs : (k : Line) (o : Order) (p : Progress) (is : List Item) → Agree p (standing is) → Stands is
+    → (doneBy (p .memory) (p .run) o k .memory ≡ standing (is ++ callsBy (p .run .order) o k) .memory)
+    × (doneBy (p .memory) (p .run) o k .done .run .order ≡ standing (is ++ callsBy (p .run .order) o k) .order)
+    × Stands (is ++ callsBy (p .run .order) o k)
+unfolding doneBy callsBy standing startedWith asked answered
+line-runs Bad o p is a b = rw append-nil (a .0, a .1, b)
+line-runs Starts o p is a b =
+    let s = run is unstarted in (
+      rw (run-more is (asks o Start) unstarted, a .0) (sym (next-memory o Start s)),
+      rw (run-more is (asks o Start) unstarted, a .0, a .1) (sym (start-order o s)),
+      ⊎-elim (λ e. first-start is o e) (λ g. inr (begun-more is g (asks o Start) (inl refl))) b,
+    )
+line-runs (Asks c) o p is a b =
+    let s = run is unstarted in (
+      rw (a .1, run-more is (asks (s .order) c) unstarted, a .0) (sym (next-memory (s .order) c s)),
+      rw (a .1, run-more is (asks (s .order) c) unstarted) (sym (next-order c s)),
+      rw (a .1) (⊎-elim (λ e. inl (rw e (refused-more is noOrder c e (none-done c)))) (λ g. inr (begun-more is g (asks (s .order) c) (inr (λ d. refl)))) b),
+    )
 
-lines-run : (ls : List (List ℕ)) (p : Progress) (s : Standing) → Agree p s → Stands s
-    → Agree (afterLines ls p) (run (calls ls p) s) × Stands (run (calls ls p) s)
-unfolding afterLines calls
-lines-run [] p s a b = unfold run in (a, b)
-lines-run (l ∷ ls) p s a b =
-    let t = line-runs (readLine l .line) (readLine l .order) p s a b in
-    rw (run-append (callsBy (p .run .order) (readLine l .order) (readLine l .line)) (calls ls (afterLine l p)) s)
-    (lines-run ls (afterLine l p) _ (unfold afterLine lineDone in (t .0, t .1)) (t .2))
+lines-run : (ls : List (List ℕ)) (p : Progress) (is : List Item) → Agree p (standing is) → Stands is
+    → Agree (afterLines ls p) (standing (is ++ callsOf ls p)) × Stands (is ++ callsOf ls p)
+unfolding afterLines callsOf
+lines-run [] p is a b = rw append-nil (a, b)
+lines-run (l ∷ ls) p is a b =
+    let c = callsBy (p .run .order) (readLine l .order) (readLine l .line) in
+    let t = line-runs (readLine l .line) (readLine l .order) p is a b in
+    rw (← append-assoc is c (callsOf ls (afterLine l p))) (lines-run ls (afterLine l p) (is ++ c) (unfold afterLine lineDone in (t .0, t .1)) (t .2))
 
 -- the whole input
-ends : (input : List ℕ) → Agree (atEnd input) (standing input) × Stands (standing input)
-unfolding atEnd standing nothingRead nothing
-ends input = lines-run (lines input) nothingRead nothing (refl, refl) (inl refl)
+ends : (input : List ℕ) → Agree (atEnd input) (standing (calls input)) × Stands (calls input)
+unfolding atEnd nothingRead
+ends input = lines-run (lines input) nothingRead [] (unfold standing run in (refl, refl)) (inl (unfold standing run in refl))
 
 pub runs-lists : RunsLists
 runs-lists input =
     let e = ends input in
-    record { memory = e .0 .0; order = e .0 .1; started = ⊎-elim (λ h. inl (rw h (unfold nothing in refl))) inr (e .1) }
+    record { memory = e .0 .0; order = e .0 .1; started = e .1 }
+
+-- nothing is marked and no flow is recorded in zeros
+zeros-unmarked : (x : ℕ) → marked zeros x ≡ false
+unfolding marked zeros
+zeros-unmarked x = rw (field-zero _ x 5)
+
+unstarted-contained : Contained unstarted
+unfolding hasFlow zeros
+unstarted-contained =
+    record {
+      marks-covered = λ x l h. absurd (true≢false (sym h ∙ zeros-unmarked x));
+      flows-join = λ x y k l h. absurd (true≢false (sym h ∙ cell-zeros rowSize (rowSize * (numbers * tables)) _ y));
+      flows-end = λ x y k l h. absurd (true≢false (sym h ∙ cell-zeros rowSize (rowSize * (numbers * tables)) _ y));
+    }
 
 pub script-contained : ScriptContained
 script-contained input =
-    let r = runs-lists input in
-    ⊎-elim (λ h. inl (r .memory ∙ h)) (λ b. inr (rw (b .leaves) at (containment (b .order) (b .before) (b .items) (b .reached)))) (r .started)
+    ⊎-elim (λ h. rw h unstarted-contained) (λ b. rw (b .leaves) (containment (b .order) _ (b .items) (b .reached))) (ends input .1)
 
--- ---- a count over sixteen
+-- ---- the lengths are right; and the bytes are sound and the order passes, once a start was granted
 
 zeros-fit : lengthsFit zeros ≡ true
 unfolding lengthsFit zeros
 zeros-fit = and-i (eq-eqb _ _ (length-replicate {A = ℕ} (recordSize * numbers) 0)) (eq-eqb _ _ (length-replicate {A = ℕ} (rowSize * (numbers * tables)) 0))
 
--- a list's start is never refused with 2, so the lengths are right
-begun-fit : (s : Standing) → Begun s → lengthsFit (s .memory) ≡ true
-unfolding start refusedUnless refusal
-begun-fit s b =
-    elim (either (lengthsFit (s .memory))) [
-      | inl h ↦ h
-      | inr h ↦ absurd (never-unsound (b .order) (b .before) (b .items) (b .reached) Start (rw (b .leaves, h)))
-    ]
+begun-fitted : (is : List Item) → Begun is → Fitted (standing is .order) (standing is .memory) (spread (standing is .memory))
+begun-fitted is b = rw (b .leaves) (fitted-done _ _ _ (ap isDone (spread-granted (b .order) _ (b .items) (b .reached))))
 
 ends-fit : (input : List ℕ) → lengthsFit (atEnd input .memory) ≡ true
 ends-fit input =
     let e = ends input in
-    rw (e .0 .0) (⊎-elim (λ h. rw h (unfold nothing in zeros-fit)) (begun-fit (standing input)) (e .1))
+    rw (e .0 .0) (⊎-elim (λ h. rw h zeros-fit) (λ b. begun-fitted (calls input) b .lengths) (e .1))
+
+-- ---- the report
+
+-- the words have the bit of every marked number
+word-at : (m : Memory) (j i : ℕ) → j < 2 → i < 64 → bit (getD (markedWords m) j 0) i ≡ marked m (64 * j + i)
+unfolding markedWords markedWord
+word-at m zero i l h = bit-word (λ k. marked m (64 * 0 + k)) i h
+word-at m (suc zero) i l h = bit-word (λ k. marked m (64 * 1 + k)) i h
+word-at m (suc (suc j)) i l h = absurd (omega arith)
+
+fitted-report : {o : Order} {m : Memory} {out : Outcome} → Fitted o m out → (x : ℕ) → x < numbers → isMarked (report o m) x ≡ marked m x
+unfolding report
+fitted-report {m = m} f x h =
+    rw (f .lengths, f .sound-bytes, f .passes)
+    (word-at m (x / 64) (x % 64) (div-lt-iff-lt-mul {k = 64} {x = x} {y = 2} (omega arith) .1 h) (mod-lt x (omega arith)) ∙ ap (marked m) (div-add-mod x 64))
+
+no-word : (j i : ℕ) → bit (getD (0 ∷ 0 ∷ []) j 0) i ≡ false
+no-word zero i = bit-zero i
+no-word (suc zero) i = bit-zero i
+no-word (suc (suc j)) i = bit-zero i
+
+zeros-report : (x : ℕ) → isMarked (report noOrder zeros) x ≡ marked zeros x
+unfolding report noReport
+zeros-report x =
+    let u : sound noOrder (zeros .bytes) ≡ false = not-so _ (λ h. zeros-unsound h) in
+    rw (zeros-fit, u) (no-word (x / 64) (x % 64) ∙ sym (zeros-unmarked x))
+
+pub lists-marked : ListsMarked
+lists-marked input x h =
+    let e = ends input in
+    rw (e .0 .0, e .0 .1) (⊎-elim (λ u. rw u (zeros-report x)) (λ b. fitted-report (begun-fitted (calls input) b) x h) (e .1))
+
+-- ---- a count over sixteen
 
 too-many-refused : (o : Order) (m : Memory) → lengthsFit m ≡ true → mostLevels < o .count → perform o m Start ≡ refusal row-order m
 unfolding start refusedUnless orderPasses countFits
 too-many-refused o m f h = rw (f, lt-leb (o .count) mostLevels h, and-false)
 
+read-too-many : (l count : List ℕ) (rest : List (List ℕ)) → pieces l ≡ startWord ∷ count ∷ rest → isNumber count ≡ true → mostLevels < value count → readLine l ≡ tooMany (value count)
+unfolding readLine lineOf startOf
+read-too-many l count rest e n h = rw e (unfold sameWord startWord in rw (n, lt-leb (value count) mostLevels h))
+
 pub over-sixteen : OverSixteen
-unfolding lineDone doneBy startedWith answered
-over-sixteen input l n h e =
-    let r = too-many-refused (tooMany n .order) (atEnd input .memory) (ends-fit input) h in
-    rw (e, r) (unfold refusal in (refl, refl))
+unfolding afterLine lineDone doneBy startedWith answered
+over-sixteen input l count rest e n h =
+    let r = too-many-refused (tooMany (value count) .order) (atEnd input .memory) (ends-fit input) h in
+    rw (read-too-many l count rest e n h, r) (unfold refusal in refl)

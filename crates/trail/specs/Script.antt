@@ -9,19 +9,17 @@ use Rattle.records.specs.Records.{numbers, recordSize}
 use Rattle.model.specs.State.{Memory, memory, rowSize, tables}
 use Rattle.model.specs.Monitor.{report}
 use Rattle.script.specs.Script.{noOrder, into}
-use Rattle.script.specs.Print.{replyLine}
+use Rattle.script.specs.Print.{lineFeed, replyLine}
 use Rattle.trail.specs.declared.lines.Run.{Run}
 use Rattle.trail.specs.Lines.{lineDone}
 use Rattle.trail.specs.Marked.{markedLine}
 
 -- ---- lines: a line feed ends a line, and the last may lack it
 
-abbrev pub lineEnd : ℕ
-lineEnd = 10
-
+-- `into b` puts b in front of the first line, or makes a line of it where there is none
 unfoldable pub lines : List ℕ → List (List ℕ)
 lines [] = []
-lines (b ∷ bs) = cond (eqb b lineEnd) ([] ∷ lines bs) (into b (lines bs))
+lines (b ∷ bs) = cond (eqb b lineFeed) ([] ∷ lines bs) (into b (lines bs))
 
 -- ---- how far a script has come: what it printed, what it keeps from line to line, and the memory
 

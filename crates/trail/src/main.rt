@@ -1,27 +1,37 @@
-// Runs a script: a call a line from standard input, an answer a line to standard output, and at the end the marked numbers. What a
-// script is, is proved of `pieces`; here are only the reading, the writing and their errors.
+// Runs a script: a call a line from standard input, an answer a line to standard output, and at the end the marked numbers. That
+// these are a script's answers is proved in `feeding`; here are only the reading, the writing and their errors.
+mod feeding;
 mod lines;
 mod marked;
-mod pieces;
 
+use feeding::State;
 use libc::STDIN_FILENO;
 use libc::STDOUT_FILENO;
-use pieces::State;
 ghost use Prim.Native.Nat.{_≤_};
 ghost use mathlib.Core.Path.{_≡_};
-ghost use lib.ListN.{length};
-ghost use Rattle.trail.specs.Pieces.{lineSize, unfed, emptied};
-ghost use Rattle.trail.specs.Buffers.{fedIn, FedSome, FedAll, Sized};
+ghost use mathlib.Core.Bool.{true};
+ghost use lib.ListN.{length, take};
+ghost use Rattle.model.specs.State.{memory};
+ghost use Rattle.trail.specs.Script.{zeros};
+ghost use Rattle.trail.specs.Feeding.{lineSize, afterPiece, emptied};
+ghost use Rattle.trail.specs.Buffers.{Sized, readingIn, SomeInput, SomeScript};
 
-// The longest piece of input, and room for its answers.
+// The longest piece of input, and room for its answers: eight bytes for each byte of it.
 const IN: usize = 16384;
 
 const OUT: usize = 131072;
 
-// What a turn comes to: whether more may be read, and whether no read and no write has failed.
-struct Outcome {
+// What a turn comes to: how much of the input buffer was fed, whether more may be read, and whether no read and no write has failed.
+struct Turn {
     state: State,
+    fed: usize,
     more: bool,
+    ok: bool,
+}
+
+// What the end comes to: how much of the output is left to be written, and whether no read and no write has failed.
+struct Ended {
+    used: usize,
     ok: bool,
 }
 
@@ -34,35 +44,37 @@ fn write_out(out: &[u8]) -> bool {
 }
 
 // Reads a piece, feeds it and writes its answers.
-fn turn(
+fn read_piece(
+    input: &mut [u8],
     line: &mut [u8],
     out: &mut [u8],
     bytes: &mut [u8],
     words: &mut [u64],
     state: State,
-) -> Outcome
-    requires { ⌜ Sized (now line) (now out) × (state .filled ≤ lineSize) ⌝ }
-    ensures { λ r. ⌜ FedSome (fedIn state (now (line .entry)) (now (out .entry)) (now (bytes .entry)) (now (words .entry))) (fedIn (r .state) (now (line .exit)) (now (out .exit)) (now (bytes .exit)) (now (words .exit)))
-        × (r .state .filled ≤ lineSize) ⌝ }
+) -> Turn
+    requires { ⌜ Sized (now input) (now line) (now out) × (state .filled ≤ lineSize) × (state .used ≡ 0) ⌝ }
+    ensures { λ r. ⌜ (readingIn (r .state) (now (line .exit)) (now (out .exit)) (now (bytes .exit)) (now (words .exit)) ≡ emptied (afterPiece (take (r .fed) (now (input .exit))) (readingIn state (now (line .entry)) (now (out .entry)) (now (bytes .entry)) (now (words .entry)))))
+        × (r .state .filled ≤ lineSize) × (r .state .used ≡ 0) ⌝ }
 {
-    let mut input = [0u8; IN];
-    let got = libc::read(STDIN_FILENO, &mut input);
+    let got = libc::read(STDIN_FILENO, input);
     if got <= 0 {
         if got < 0 {
             os::fail(b"standard input");
         }
-        return Outcome {
+        return Turn {
             state,
+            fed: 0,
             more: false,
             ok: got == 0,
         };
     }
-    let n = io::count(got, &input);
-    let next = pieces::feed(&input[..n], line, out, bytes, words, state);
+    let n = io::count(got, input);
+    let next = feeding::feed(&input[..n], line, out, bytes, words, state);
     let used = next.used;
     let ok = write_out(&out[..used]);
-    Outcome {
-        state: next,
+    Turn {
+        state: feeding::emptied(next),
+        fed: n,
         more: ok,
         ok,
     }
@@ -71,46 +83,64 @@ fn turn(
 // A proved loop has to end, and nothing says that the input does. So the loop counts its turns down, from a number that no run uses
 // up.
 fn read_all(
+    input: &mut [u8],
     line: &mut [u8],
     out: &mut [u8],
     bytes: &mut [u8],
     words: &mut [u64],
-    from: State,
-) -> Outcome
-    requires { ⌜ Sized (now line) (now out) × (fedIn from (now line) (now out) (now bytes) (now words) ≡ unfed) × (from .filled ≤ lineSize) ⌝ }
-    ensures { λ r. ⌜ FedAll (fedIn (r .state) (now (line .exit)) (now (out .exit)) (now (bytes .exit)) (now (words .exit)))
-        × (r .state .filled ≤ lineSize) ⌝ }
+) -> Turn
+    requires { ⌜ Sized (now input) (now line) (now out) × (memory (now bytes) (now words) ≡ zeros) ⌝ }
+    ensures { λ r. ⌜ SomeInput (readingIn (r .state) (now (line .exit)) (now (out .exit)) (now (bytes .exit)) (now (words .exit)))
+        × (r .state .filled ≤ lineSize) × (r .state .used ≡ 0) ⌝ }
 {
-    let mut last = Outcome {
-        state: from,
+    let mut last = Turn {
+        state: feeding::at_first(),
+        fed: 0,
         more: true,
         ok: true,
     };
     let mut turns = u64::MAX;
     while turns > 0 && last.more {
         let state = last.state;
-        last = turn(line, out, bytes, words, state);
+        last = read_piece(input, line, out, bytes, words, state);
         turns -= 1;
     }
     last
 }
 
+// The whole script, but for the writing of what is printed at its end.
+fn run(
+    input: &mut [u8],
+    line: &mut [u8],
+    out: &mut [u8],
+    bytes: &mut [u8],
+    words: &mut [u64],
+) -> Ended
+    requires { ⌜ Sized (now input) (now line) (now out) × (memory (now bytes) (now words) ≡ zeros) ⌝ }
+    ensures { λ r. ⌜ (r .ok ≡ true → SomeScript (r .used) (now (out .exit)) (now (bytes .exit)) (now (words .exit)))
+        × (r .used ≤ length (now (out .exit))) ⌝ }
+{
+    let last = read_all(input, line, out, bytes, words);
+    if !last.ok {
+        return Ended { used: 0, ok: false };
+    }
+    let state = last.state;
+    let end = feeding::finish(line, out, bytes, words, state);
+    Ended {
+        used: end.used,
+        ok: true,
+    }
+}
+
 fn main() {
     let mut bytes = [0u8; 1024];
     let mut words = [0u64; 768];
-    let mut line = [0u8; pieces::KEPT];
+    let mut input = [0u8; IN];
+    let mut line = [0u8; feeding::KEPT];
     let mut out = [0u8; OUT];
-    let last = read_all(
-        &mut line,
-        &mut out,
-        &mut bytes,
-        &mut words,
-        pieces::at_first(),
-    );
-    if last.ok {
-        let state = last.state;
-        let filled = state.filled;
-        let used = pieces::finish(&line[..filled], &mut out, &mut bytes, &mut words, state);
+    let end = run(&mut input, &mut line, &mut out, &mut bytes, &mut words);
+    if end.ok {
+        let used = end.used;
         write_out(&out[..used]);
     }
 }

@@ -1,32 +1,37 @@
-use mathlib.Core.Path.{_≡_, refl, _∙_}
+use mathlib.Core.Path.{_≡_, refl, ap, _∙_}
 use Prim.Native.Nat.{_≤_}
 use native.Mathlib.Omega.{arith}
 use lib.ListN.{length}
-use Rattle.trail.specs.Pieces.{lineSize}
-use Rattle.trail.specs.Buffers.{fedIn, FedAll}
-use Rattle.trail.specs.BufferLaws.{fed-first, fed-again}
+use borrow.Author.Needs.{needs}
+use Rattle.trail.specs.declared.feeding.State.{State}
+use Rattle.trail.specs.Feeding.{lineSize}
+use Rattle.trail.specs.Buffers.{readingIn, SomeInput}
+use Rattle.trail.specs.BufferLaws.{no-input, input-more}
 use Rattle.trail.proofs.read_all.Statement.{statement}
 use Rattle.trail.proofs.read_all.Tie as tie
 
 abbrev Inv-loop : tie.InvT-loop
-Inv-loop line₀ out₀ bytes₀ words₀ last₀ turns₀ line out bytes words last turns =
-    (length line ≡ length line₀) × (length out ≡ length out₀) × (length bytes ≡ length bytes₀) × (length words ≡ length words₀)
-    × (last .state .filled ≤ lineSize) × FedAll (fedIn (last .state) line out bytes words)
+Inv-loop input₀ line₀ out₀ bytes₀ words₀ last₀ turns₀ input line out bytes words last turns =
+    (length input ≡ length input₀) × (length line ≡ length line₀) × (length out ≡ length out₀) × (length bytes ≡ length bytes₀) × (length words ≡ length words₀)
+    × (last .state .filled ≤ lineSize) × (last .state .used ≡ 0) × SomeInput (readingIn (last .state) line out bytes words)
 
 abbrev μ-loop : tie.MeasureT-loop
-μ-loop line₀ out₀ bytes₀ words₀ last₀ turns₀ line out bytes words last turns = turns
+μ-loop input₀ line₀ out₀ bytes₀ words₀ last₀ turns₀ input line out bytes words last turns = turns
 
 loop-holds : tie.Need-loop-holds Inv-loop μ-loop
 loop-holds c =
-    let p = c .before .before .before .before .pre in
-    (refl, refl, refl, refl, p .2, fed-first (p .1))
+    let e = c .at-first .ensures in
+    let s = c .before .before .before .before .before .before in
+    let a = s .args in
+    (refl, refl, refl, refl, refl, omega (arith, ap (λ (s : State). s .filled) e), ap (λ (s : State). s .used) e, no-input _ (a .line .now) (a .out .now) (a .bytes .now) (a .words .now) e (s .pre .1))
 
 loop-again : tie.Need-loop-again Inv-loop μ-loop
 loop-again c =
-    let t = c .before .before .before .before .before .before .before .before in
-    let k = t .turn .kept in
-    let s = t .before .before .before .before .before .before .before .before .loop .inv in
-    (k .0 ∙ s .0, k .1 .0 ∙ s .1, k .1 .1 .0 ∙ s .2, k .1 .1 .1 .0 ∙ s .3, t .turn .ensures .1, fed-again (s .5) (t .turn .ensures .0))
+    let t = c .before .before .before .before .before .before .before .before .before .before in
+    let k = t .read-piece .kept in
+    let e = t .read-piece .ensures in
+    let s = t .before .before .before .before .before .before .before .before .before .loop .inv in
+    (k .0 ∙ s .0, k .1 .0 ∙ s .1, k .1 .1 .0 ∙ s .2, k .1 .1 .1 .0 ∙ s .3, k .1 .1 .1 .1 .0 ∙ s .4, e .1, e .2, input-more _ (s .7) (e .0))
 
 pub read-all-spec : {M : Type 1} → statement M
 read-all-spec =
@@ -34,6 +39,7 @@ read-all-spec =
     (tie.spec
     Inv-loop
     μ-loop
+    (λ c κs. search needs)
     loop-holds
     (λ c κs. omega arith)
     (λ c. omega arith)
@@ -43,9 +49,11 @@ read-all-spec =
     (λ c. c .before .before .loop .inv .1)
     (λ c. c .before .before .loop .inv .2)
     (λ c. c .before .before .loop .inv .3)
-    (λ c. (c .before .before .loop .inv .5, c .before .before .loop .inv .4))
+    (λ c. c .before .before .loop .inv .4)
+    (λ c. let i = c .before .before .loop .inv in (i .7, i .5, i .6))
     (λ c. c .before .loop .inv .0)
     (λ c. c .before .loop .inv .1)
     (λ c. c .before .loop .inv .2)
     (λ c. c .before .loop .inv .3)
-    (λ c. (c .before .loop .inv .5, c .before .loop .inv .4)))
+    (λ c. c .before .loop .inv .4)
+    (λ c. let i = c .before .loop .inv in (i .7, i .5, i .6)))

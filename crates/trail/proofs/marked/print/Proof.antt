@@ -2,7 +2,7 @@ use native.Mathlib.Omega.{arith}
 use Prim.Native.Nat.{_+_, _-_}
 use borrow.Author.Needs.{needs}
 use Rattle.script.specs.PrintLaws.{printed-length}
-use Rattle.trail.specs.Marked.{markedWord}
+use Rattle.trail.specs.Marked.{markedText}
 use Rattle.trail.specs.MarkedLaws.{IsNext, next, UpTo, none-yet, one-more, all-listed}
 use Rattle.trail.proofs.marked.print.Statement.{statement}
 use Rattle.trail.proofs.marked.print.Tie as tie
@@ -29,7 +29,7 @@ loop-again c =
     one-more (b .before .before .before .loop .inv) (omega arith) (b .byte .ensures) (n .number .ensures) (found c)
 
 returns : tie.Need-returns Inv-loop μ-loop
-unfolding markedWord
+unfolding markedText
 returns c =
     let b = c .before .before in
     let s = b .before .before .before in

@@ -2,8 +2,8 @@ use mathlib.Core.Path.{_∙_}
 use native.Mathlib.Omega.{arith}
 use borrow.Author.Needs.{needs}
 use Rattle.trail.specs.BufferLaws.{no-last, some-last}
-use Rattle.trail.proofs.pieces.last_line.Statement.{statement}
-use Rattle.trail.proofs.pieces.last_line.Tie as tie
+use Rattle.trail.proofs.feeding.last_line.Statement.{statement}
+use Rattle.trail.proofs.feeding.last_line.Tie as tie
 
 returns : tie.Need-returns
 returns c = (no-last _ _ (c .if1 .taken), omega arith)

@@ -1,6 +1,6 @@
 use borrow.Author.Needs.{needs}
-use Rattle.trail.proofs.pieces.at_first.Statement.{statement}
-use Rattle.trail.proofs.pieces.at_first.Tie as tie
+use Rattle.trail.proofs.feeding.at_first.Statement.{statement}
+use Rattle.trail.proofs.feeding.at_first.Tie as tie
 
 returns : tie.Need-returns
 returns c = rw (c .at-first .ensures)

@@ -4,28 +4,28 @@ use Prim.Native.Nat.{ℕ, _+_, _-_, _*_, _≤_}
 use native.Mathlib.Omega.{arith}
 use lib.ListN.{length, take, length-set}
 use lib.Seq.{length-take-le, take-all}
-use Rattle.trail.specs.declared.pieces.State.{State}
-use Rattle.trail.specs.Pieces.{lineSize, Fed, fed, emptied}
-use Rattle.trail.specs.Buffers.{fedIn}
-use Rattle.trail.specs.BufferLaws.{fed-end, fed-on, kept-more, kept-full}
-use Rattle.trail.proofs.pieces.feed.Statement.{statement}
-use Rattle.trail.proofs.pieces.feed.Tie as tie
+use Rattle.trail.specs.declared.feeding.Answered.{Answered}
+use Rattle.trail.specs.Feeding.{lineSize, Reading, afterPiece}
+use Rattle.trail.specs.Buffers.{answerSize, readingIn}
+use Rattle.trail.specs.BufferLaws.{byte-ended, byte-kept, kept-more, kept-full}
+use Rattle.trail.proofs.feeding.feed.Statement.{statement}
+use Rattle.trail.proofs.feeding.feed.Tie as tie
 
--- how much of the line is kept stands in a local of its own
-abbrev with : State → ℕ → List ℕ → List ℕ → List ℕ → List ℕ → Fed
-with s n line out bs ws = fedIn (record { run = s .run; filled = n; used = s .used }) line out bs ws
+-- where the reading stands, by the loop's own variables
+abbrev reading : Answered → ℕ → List ℕ → List ℕ → List ℕ → List ℕ → Reading
+reading a n line out bs ws = readingIn (record { run = a .run; filled = n; used = a .used }) line out bs ws
 
 abbrev Inv-loop : tie.InvT-loop
-Inv-loop piece line₀ out₀ bytes₀ words₀ filled₀ state₀ i₀ line out bytes words filled state i =
+Inv-loop piece line₀ out₀ bytes₀ words₀ at₀ filled₀ i₀ line out bytes words at filled i =
     (length line ≡ length line₀) × (length out ≡ length out₀) × (length bytes ≡ length bytes₀) × (length words ≡ length words₀)
-    × (filled ≤ lineSize) × (i ≤ length piece) × (state .used + 8 * (length piece - i) ≤ length out)
-    × (with state filled line out bytes words ≡ fed (take i piece) (with state₀ filled₀ line₀ out₀ bytes₀ words₀))
+    × (filled ≤ lineSize) × (i ≤ length piece) × (at .used + answerSize * (length piece - i) ≤ length out)
+    × (reading at filled line out bytes words ≡ afterPiece (take i piece) (reading at₀ filled₀ line₀ out₀ bytes₀ words₀))
 
 abbrev μ-loop : tie.MeasureT-loop
-μ-loop piece line₀ out₀ bytes₀ words₀ filled₀ state₀ i₀ line out bytes words filled state i = length piece - i
+μ-loop piece line₀ out₀ bytes₀ words₀ at₀ filled₀ i₀ line out bytes words at filled i = length piece - i
 
 loop-holds : tie.Need-loop-holds Inv-loop μ-loop
-loop-holds c = (refl, refl, refl, refl, omega arith, omega arith, omega arith, unfold fed in refl)
+loop-holds c = (refl, refl, refl, refl, omega arith, omega arith, omega arith, unfold afterPiece in refl)
 
 slice-aggregate-end-line : tie.Need-slice-aggregate-end-line Inv-loop μ-loop
 slice-aggregate-end-line c = sym (length-take-le _ _ (omega arith))
@@ -44,7 +44,7 @@ loop-again c =
       omega arith,
       omega arith,
       omega (arith, e .end-line .ensures .1),
-      fed-end (l .before .before .before .before .before .before .before .args .piece .now) (l .loop .i) _ (omega arith) (t .if1 .taken) (s .7) (e .end-line .ensures .0),
+      byte-ended (l .before .before .before .before .before .before .before .args .piece .now) (l .loop .i) _ (omega arith) (t .if1 .taken) (s .7) (e .end-line .ensures .0),
     )
 
 loop-again-2 : tie.Need-loop-again-2 Inv-loop μ-loop
@@ -59,7 +59,7 @@ loop-again-2 c =
       s .4,
       omega arith,
       omega arith,
-      fed-on (w .before .before .before .before .before .before .before .args .piece .now) (l .i) _ (omega arith) (c .before .if1 .left) (s .7) (kept-full (l .line) (l .filled) _ (c .if2 .taken) (omega arith)),
+      byte-kept (w .before .before .before .before .before .before .before .args .piece .now) (l .i) _ (omega arith) (c .before .if1 .left) (s .7) (kept-full (l .line) (l .filled) _ (c .if2 .taken) (omega arith)),
     )
 
 loop-again-3 : tie.Need-loop-again-3 Inv-loop μ-loop
@@ -74,14 +74,13 @@ loop-again-3 c =
       omega arith,
       omega arith,
       omega arith,
-      fed-on (w .before .before .before .before .before .before .before .args .piece .now) (l .i) _ (omega arith) (c .before .if1 .left) (s .7) (kept-more (l .line) (l .filled) _ (omega arith) (omega arith)),
+      byte-kept (w .before .before .before .before .before .before .before .args .piece .now) (l .i) _ (omega arith) (c .before .if1 .left) (s .7) (kept-more (l .line) (l .filled) _ (omega arith) (omega arith)),
     )
 
 returns : tie.Need-returns Inv-loop μ-loop
-unfolding emptied
 returns c =
-    let l = c .before .loop in
-    let p = c .before .before .before .before .before .before .before .before .args .piece .now in
+    let l = c .before .before .loop in
+    let p = c .before .before .before .before .before .before .before .before .before .args .piece .now in
     (rw (← take-all (l .i) p (omega arith)) (l .inv .7), l .inv .4, omega arith)
 
 pub feed-spec : {M : Type 1} → statement M
@@ -104,8 +103,8 @@ feed-spec =
     (λ c. omega arith)
     (λ c. omega arith)
     loop-again-3
-    (λ c. c .before .loop .inv .0)
-    (λ c. c .before .loop .inv .1)
-    (λ c. c .before .loop .inv .2)
-    (λ c. c .before .loop .inv .3)
+    (λ c. c .before .before .loop .inv .0)
+    (λ c. c .before .before .loop .inv .1)
+    (λ c. c .before .before .loop .inv .2)
+    (λ c. c .before .before .loop .inv .3)
     returns)

@@ -4,15 +4,15 @@ use borrow.Author.Needs.{needs}
 use Rattle.script.specs.PrintLaws.{reply-within}
 use Rattle.trail.specs.Buffers.{progressIn}
 use Rattle.trail.specs.BufferLaws.{line-answered}
-use Rattle.trail.proofs.pieces.end_line.Statement.{statement}
-use Rattle.trail.proofs.pieces.end_line.Tie as tie
+use Rattle.trail.proofs.feeding.end_line.Statement.{statement}
+use Rattle.trail.proofs.feeding.end_line.Tie as tie
 
 returns : tie.Need-returns
 returns c =
     let p = c .before .before .before in
     let d = p .before .before .before .before .before .before in
     let a = d .before .before .before .before .before .before .before .before .args in (
-      line-answered (progressIn (a .state) (a .out .now) (a .bytes .now) (a .words .now)) (a .line .now) (d .do-line .ensures) refl (p .answer .ensures) refl (omega arith),
+      line-answered (progressIn (a .at .run) (a .at .used) (a .out .now) (a .bytes .now) (a .words .now)) (a .line .now) (d .do-line .ensures) refl (p .answer .ensures) refl (omega arith),
       omega (arith, reply-within _ (p .answer .ensures)),
     )
 
