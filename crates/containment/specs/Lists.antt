@@ -17,6 +17,7 @@ pub data Item : Type 0 where
   asks : Order → Call → Item
   reports : Order → Item
 
+-- the order that it is lent
 abbrev pub lent : Item → Order
 lent (asks o c) = o
 lent (reports o) = o
