@@ -1,5 +1,6 @@
 //! The library and the model side by side.
 
+use crate::causes::Made;
 use crate::model::{BYTES, Lengths, Model, Number, State, WORDS};
 use crate::table::Table;
 use tupehiwo::ffi::{self, Answer, Order, Report, Request, Tally};
@@ -108,7 +109,8 @@ impl Pair {
         if answer != expected {
             self.differ(&order, request, &format!("answers {answer:?}, model {expected:?}"));
         }
-        self.table.count_call(request.code, answer.verdict);
+        let made = Made { state: &self.model.state, lengths, order: &order, request };
+        self.table.count_call(request.code, answer.verdict, made.cause(answer.verdict));
         self.compare_memory(&order, request);
         self.compare_report(lengths, order, request);
         answer

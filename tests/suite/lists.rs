@@ -1,6 +1,6 @@
 //! Long random lists of calls, the library and the model held equal after each.
 
-use std::collections::BTreeSet;
+use std::collections::{BTreeMap, BTreeSet};
 
 use tupehiwo::ffi::{Order, Request, code};
 use tupehiwo_tests::author::Author;
@@ -128,13 +128,20 @@ fn lists_from_a_start() {
     table.must_be_complete();
 }
 
+/// In how many memories each was found that no list of calls leaves.
+type Unreached = BTreeMap<&'static str, u64>;
+
 /// Calls on sound memory that no list need leave, damaged now and then, under its
 /// own order or another.
-fn calls_on_one_memory(seed: u64, pool: &[Number]) -> Table {
+fn calls_on_one_memory(seed: u64, pool: &[Number], unreached: &mut Unreached) -> Table {
     let mut rng = Rng::new(seed);
     let mut pair = Pair::new(format!("memory of TUPEHIWO_SEED={seed}"));
     let usual = worlds::order(&mut rng);
-    pair.set_state(worlds::sound_state(&mut rng, &usual));
+    let state = worlds::sound_state(&mut rng, &usual);
+    for (what, found) in worlds::unreached(&state, &usual) {
+        *unreached.entry(what).or_default() += u64::from(found);
+    }
+    pair.set_state(state);
     pair.set_tally(worlds::tally(&mut rng));
     for _ in 0..CALLS_ON_A_MEMORY {
         if rng.once_in(40) {
@@ -157,11 +164,16 @@ fn calls_on_any_memory() {
     let first = seed("calls_on_any_memory");
     let pool: Vec<Number> = (0..128).collect();
     let mut table = Table::default();
+    let mut unreached = Unreached::new();
     for number in 0..MEMORIES {
-        table.add(&calls_on_one_memory(first.wrapping_add(number), &pool));
+        table.add(&calls_on_one_memory(first.wrapping_add(number), &pool, &mut unreached));
     }
     println!("{} calls on any memory\n{table}", table.calls());
+    println!("memories that no list leaves, of {MEMORIES}: {unreached:?}");
     table.must_be_complete();
+    for (what, memories) in unreached {
+        assert!(memories > MEMORIES / 50, "{what}: in {memories} memories only");
+    }
 }
 
 /// What chains reach, by a search that knows no rounds.

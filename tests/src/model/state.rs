@@ -105,7 +105,8 @@ impl Thing {
         }
     }
 
-    fn record(&self) -> [u8; RECORD] {
+    /// The bytes that say this.
+    pub fn record(&self) -> [u8; RECORD] {
         match *self {
             Thing::Free => [0; RECORD],
             Thing::Task(task) => {
