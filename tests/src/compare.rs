@@ -1,7 +1,7 @@
 //! The library and the model side by side.
 
 use crate::causes::Made;
-use crate::model::{BYTES, Lengths, Model, Number, State, WORDS};
+use crate::model::{BYTES, Lengths, Model, Number, RECORD, State, Thing, WORDS};
 use crate::table::Table;
 use tupehiwo::ffi::{self, Answer, Order, Report, Request, Tally};
 
@@ -65,8 +65,9 @@ impl Pair {
     /// Puts another byte in the place of what the calls left, sound or not.
     pub fn set_byte(&mut self, place: usize, value: u8) {
         self.bytes[MARGIN + place] = value;
-        let words = &self.words[MARGIN..][..WORDS];
-        self.model.state = State::read(&self.bytes[MARGIN..][..BYTES], words);
+        let record = place - place % RECORD;
+        let bytes = &self.bytes[MARGIN + record..][..RECORD];
+        self.model.state.things[place / RECORD] = Thing::read(bytes);
     }
 
     pub fn set_tally(&mut self, tally: Tally) {

@@ -1,6 +1,7 @@
 //! How often each call gave each verdict, and which pairs cannot occur.
 
-use std::fmt;
+use std::ops::Range;
+use std::{fmt, panic, thread};
 
 use crate::causes::{Cause, Causes};
 use tupehiwo::ffi::code;
@@ -159,6 +160,26 @@ impl Table {
         }
         assert!(faults.is_empty(), "the table of calls and verdicts:\n{}", faults.join("\n"));
     }
+}
+
+/// The tables of some numbered tests together, made by as many workers as the
+/// machine runs at once.
+pub fn sum_of(tests: Range<u64>, table_of: impl Fn(u64) -> Table + Sync) -> Table {
+    let workers = thread::available_parallelism().map_or(1, usize::from);
+    let work = |worker: usize| {
+        let mut table = Table::default();
+        let own = tests.clone().skip(worker).step_by(workers);
+        own.for_each(|number| table.add(&table_of(number)));
+        table
+    };
+    let mut sum = Table::default();
+    thread::scope(|scope| {
+        let begun: Vec<_> = (0..workers).map(|worker| scope.spawn(move || work(worker))).collect();
+        for worker in begun {
+            sum.add(&worker.join().unwrap_or_else(|failure| panic::resume_unwind(failure)));
+        }
+    });
+    sum
 }
 
 impl fmt::Display for Table {

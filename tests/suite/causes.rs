@@ -1,8 +1,6 @@
 //! Calls that nearly fit: one that is granted, with some of what it looks at
 //! changed. Each test of each call then is, some time, the only one that fails.
 
-use std::thread;
-
 use tupehiwo::ffi::{Order, Request, code};
 use tupehiwo_tests::author::{Author, EDGES};
 use tupehiwo_tests::causes::how_many;
@@ -10,7 +8,7 @@ use tupehiwo_tests::compare::Pair;
 use tupehiwo_tests::model::{Lengths, Mark, Model, Number, Object, Pairs, State, Task, Thing};
 use tupehiwo_tests::request;
 use tupehiwo_tests::rng::{Rng, seed};
-use tupehiwo_tests::table::Table;
+use tupehiwo_tests::table::{Table, sum_of};
 use tupehiwo_tests::worlds;
 
 /// How many granted calls of a code are looked for, and how often each is changed.
@@ -198,16 +196,8 @@ fn nearly_granted(seed: u64, code: u16) -> Table {
 #[test]
 fn every_cause_occurs() {
     let first = seed("every_cause_occurs");
-    let mut table = Table::default();
-    thread::scope(|scope| {
-        let codes = (0..=code::SPREAD + 1).map(|code| {
-            let seed = first.wrapping_add(code.into());
-            scope.spawn(move || nearly_granted(seed, code))
-        });
-        for code in codes.collect::<Vec<_>>() {
-            table.add(&code.join().expect("the library and the model agree"));
-        }
-    });
+    let codes = 0..u64::from(code::SPREAD) + 2;
+    let table = sum_of(codes, |code| nearly_granted(first.wrapping_add(code), code as u16));
     let causes = &table.causes;
     println!("{} calls on memory that nearly fits\n{table}", table.calls());
     println!("{}\n{causes}", causes.summary());

@@ -8,7 +8,7 @@ use tupehiwo_tests::compare::Pair;
 use tupehiwo_tests::model::{Lengths, Model, Number, State, at_or_below};
 use tupehiwo_tests::request;
 use tupehiwo_tests::rng::{Rng, seed};
-use tupehiwo_tests::table::Table;
+use tupehiwo_tests::table::{Table, sum_of};
 use tupehiwo_tests::worlds;
 
 const LISTS: u64 = 1200;
@@ -109,20 +109,21 @@ fn is_refused(model: &Model, order: &Order, request: Request) -> bool {
     verdict > 1
 }
 
+fn one_list(seed: u64) -> Table {
+    let mut list = List::begin(seed);
+    for call in 1..=CALLS_OF_A_LIST {
+        list.one_call();
+        if call % 100 == 0 {
+            list.must_keep_the_limits();
+        }
+    }
+    list.pair.table
+}
+
 #[test]
 fn lists_from_a_start() {
     let first = seed("lists_from_a_start");
-    let mut table = Table::default();
-    for number in 0..LISTS {
-        let mut list = List::begin(first.wrapping_add(number));
-        for call in 1..=CALLS_OF_A_LIST {
-            list.one_call();
-            if call % 100 == 0 {
-                list.must_keep_the_limits();
-            }
-        }
-        table.add(&list.pair.table);
-    }
+    let table = sum_of(0..LISTS, |number| one_list(first.wrapping_add(number)));
     println!("{} calls in lists from a start\n{table}", table.calls());
     assert!(table.calls() > 1_000_000);
     table.must_be_complete();
