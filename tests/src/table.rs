@@ -1,7 +1,9 @@
 //! How often each call gave each verdict, and which pairs cannot occur.
 
 use std::ops::Range;
-use std::{fmt, panic, thread};
+use std::panic::{self, AssertUnwindSafe};
+use std::sync::atomic::{AtomicBool, Ordering};
+use std::{fmt, thread};
 
 use crate::causes::{Cause, Causes};
 use tupehiwo::ffi::code;
@@ -163,19 +165,26 @@ impl Table {
 }
 
 /// The tables of some numbered tests together, made by as many workers as the
-/// machine runs at once.
+/// machine runs at once. They stop at the first failure.
 pub fn sum_of(tests: Range<u64>, table_of: impl Fn(u64) -> Table + Sync) -> Table {
     let workers = thread::available_parallelism().map_or(1, usize::from);
+    let failed = AtomicBool::new(false);
     let work = |worker: usize| {
         let mut table = Table::default();
         let own = tests.clone().skip(worker).step_by(workers);
-        own.for_each(|number| table.add(&table_of(number)));
+        for number in own.take_while(|_| !failed.load(Ordering::Relaxed)) {
+            let done = panic::catch_unwind(AssertUnwindSafe(|| table_of(number)));
+            table.add(&done.unwrap_or_else(|failure| {
+                failed.store(true, Ordering::Relaxed);
+                panic::resume_unwind(failure)
+            }));
+        }
         table
     };
     let mut sum = Table::default();
     thread::scope(|scope| {
-        let begun: Vec<_> = (0..workers).map(|worker| scope.spawn(move || work(worker))).collect();
-        for worker in begun {
+        let begin = |worker| scope.spawn(move || work(worker));
+        for worker in (0..workers).map(begin).collect::<Vec<_>>() {
             sum.add(&worker.join().unwrap_or_else(|failure| panic::resume_unwind(failure)));
         }
     });

@@ -39,8 +39,8 @@ pub fn other_order(rng: &mut Rng, near: Order) -> Order {
     match rng.below(8) {
         0 => other = order(rng),
         1 => other = Order::default(),
-        2 => other.count = rng.pick(&[0, more, less, 16, 17, 200, 65535]),
-        3 => other.top = rng.pick(&[0, near.count, less, 15, 16, 65535]),
+        2 => other.count = rng.pick(&[0, more, less, 16, 17, 200, 256, 65535]),
+        3 => other.top = rng.pick(&[0, near.count, less, 15, 16, near.top | 256, 65535]),
         4 => other.rows.fill_with(|| rng.bits() as u16),
         _ => {
             let rows = if rng.once_in(4) { 16 } else { near.count.clamp(1, 16).into() };

@@ -11,14 +11,17 @@ use tupehiwo_tests::rng::{Rng, seed};
 use tupehiwo_tests::table::{Table, sum_of};
 use tupehiwo_tests::worlds;
 
-/// How many granted calls of a code are looked for, and how often each is changed.
-/// Those with many tests need more.
+/// How often all codes are gone through.
+const TURNS: u64 = 10;
+
+/// How many granted calls of a code are looked for in a turn, and how often each is
+/// changed. Those with many tests need more.
 fn granted_calls(code: u16) -> usize {
     match code {
-        code::MOVE => 2500,
-        code::READ | code::PASS | code::POST | code::STEP => 1000,
-        code::MARK | code::SPREAD.. => 150,
-        _ => 600,
+        code::MOVE => 250,
+        code::CALL | code::INVOKE | code::FIND => 60,
+        code::MARK | code::SPREAD.. => 15,
+        _ => 100,
     }
 }
 
@@ -44,6 +47,7 @@ impl Scene {
             let state = worlds::dense_state(rng, &order);
             for _ in 0..10 {
                 let mut author = Author { rng, state: &state, order: &order, pool: &pool };
+                let code = if code > code::SPREAD { author.unknown_code() } else { code };
                 let request = author.request_of(code);
                 let lengths = Lengths::RIGHT;
                 let mut model = Model { state: state.clone(), tally: Default::default() };
@@ -180,7 +184,7 @@ impl Scene {
 /// Calls of one code, each granted or nearly so.
 fn nearly_granted(seed: u64, code: u16) -> Table {
     let mut rng = Rng::new(seed);
-    let mut pair = Pair::new(format!("code {code} of TUPEHIWO_SEED={seed}"));
+    let mut pair = Pair::new(format!("code {code} from the seed {seed}"));
     for _ in 0..granted_calls(code) {
         let scene = Scene::granted(&mut rng, code);
         scene.clone().perform(&mut pair);
@@ -196,8 +200,10 @@ fn nearly_granted(seed: u64, code: u16) -> Table {
 #[test]
 fn every_cause_occurs() {
     let first = seed("every_cause_occurs");
-    let codes = 0..u64::from(code::SPREAD) + 2;
-    let table = sum_of(codes, |code| nearly_granted(first.wrapping_add(code), code as u16));
+    let codes = u64::from(code::SPREAD) + 2;
+    let table = sum_of(0..TURNS * codes, |number| {
+        nearly_granted(first.wrapping_add(number), (number % codes) as u16)
+    });
     let causes = &table.causes;
     println!("{} calls on memory that nearly fits\n{table}", table.calls());
     println!("{}\n{causes}", causes.summary());

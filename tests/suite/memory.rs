@@ -1,7 +1,7 @@
-//! What is lent may be anything: every byte damaged, every length, number, code
-//! and count at its edges.
+//! What is lent may be anything: every byte damaged, every length, number and code
+//! at its edges.
 
-use tupehiwo::ffi::{self, Order, Report, Request, Tally, code};
+use tupehiwo::ffi::{self, Order, Report, Request, code};
 use tupehiwo_tests::author::{Author, EDGES};
 use tupehiwo_tests::causes::how_many;
 use tupehiwo_tests::compare::{Pair, next_marked};
@@ -308,43 +308,6 @@ fn random_orders() {
         pair.perform(other, request(code::START, &[]));
         let failing = worlds::failing_order(&mut rng, order);
         assert_eq!(pair.perform(failing, request(code::START, &[])).verdict, 3);
-    }
-}
-
-#[test]
-fn counts_stop() {
-    let stop = u32::MAX;
-    for near in [stop - 2, stop - 1, stop] {
-        for count in 0..3 {
-            let mut counts = [7, 8, 9];
-            counts[count] = near;
-            let [granted, slipped, refused] = counts;
-            let mut pair = Pair::started("counts", Q);
-            slip_ready(&mut pair);
-            pair.set_tally(Tally { granted, slipped, refused });
-            for _ in 0..4 {
-                assert_eq!(pair.perform(Q, request(code::MARK, &[2])).verdict, 0);
-                assert_eq!(pair.perform(Q, request(code::READ, &[1, 2, 20])).verdict, 1);
-                assert_eq!(pair.perform(Q, request(code::MARK, &[128])).verdict, 4);
-            }
-            let stopped = pair.model.tally;
-            let counts = [stopped.granted, stopped.slipped, stopped.refused];
-            assert_eq!(counts[count], stop);
-            assert_eq!(counts.iter().filter(|&&count| count == stop).count(), 1);
-        }
-    }
-}
-
-/// A marked driver 2 at 3, whose object 20 at 2 the task 1 at 1 reads by a slip.
-fn slip_ready(pair: &mut Pair) {
-    for call in [
-        request(code::CREATE_ROOT, &[0, 0, 10, 3]),
-        request(code::EXECUTE, &[0, 10, 1, 1, 1]),
-        request(code::EXECUTE, &[0, 10, 2, 3, 3]),
-        request(code::CREATE_ROOT, &[0, 2, 20, 2]),
-        request(code::MARK, &[2]),
-    ] {
-        assert_eq!(pair.perform(Q, call).verdict, 0, "{call:?}");
     }
 }
 
