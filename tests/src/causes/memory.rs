@@ -6,6 +6,7 @@ use super::{Reason, single};
 use crate::model::{Lengths, State, at_or_below};
 use tupehiwo::ffi::Order;
 
+/// What a free number may not have, by the place of the byte.
 const FREE: [&str; 8] = [
     "kind",
     "level not 0",
@@ -17,6 +18,7 @@ const FREE: [&str; 8] = [
     "second spare byte not 0",
 ];
 
+/// What a task may not have.
 const TASK: [&str; 8] = [
     "level not below the count",
     "read level not below the count",
@@ -28,6 +30,7 @@ const TASK: [&str; 8] = [
     FREE[7],
 ];
 
+/// What an object may not have.
 const OBJECT: [&str; 14] = [
     TASK[0],
     FREE[2],
@@ -45,6 +48,7 @@ const OBJECT: [&str; 14] = [
     FREE[7],
 ];
 
+/// What number 0 may not be.
 const CORE: [&str; 3] = ["free", "an object", "not at the top"];
 
 const LENGTHS: [Reason; 2] = [("length", "of the bytes"), ("length", "of the words")];
@@ -149,6 +153,7 @@ fn fault_of_core(record: &[u8; 8], top: u16) -> Option<&'static str> {
     }
 }
 
+/// What breaks an order.
 const ORDER: [&str; 9] = [
     "count 0",
     "count over 16",
