@@ -164,8 +164,8 @@ impl Table {
     }
 }
 
-/// The tables of some numbered tests together, made by as many workers as the
-/// machine runs at once. They stop at the first failure.
+/// The tables of some numbered tests together, made by as many workers as can run
+/// at once. They stop at the first failure.
 pub fn sum_of(tests: Range<u64>, table_of: impl Fn(u64) -> Table + Sync) -> Table {
     let workers = thread::available_parallelism().map_or(1, usize::from);
     let failed = AtomicBool::new(false);

@@ -212,14 +212,10 @@ fn number_127_free_in_every_place() {
             let verdict = pair.perform(Q, request(call.code, &arguments)).verdict;
             granted += u32::from(verdict == 0);
         }
-        assert_eq!(granted > 0, granted_without_127(call), "{granted} granted of {call:?}");
+        // All but those that need 127 itself: it is the object or the end that they name.
+        let needed = [call.a, call.b, call.c].contains(&127);
+        assert_eq!(granted > 0, !needed, "{granted} granted of {call:?}");
     }
-}
-
-/// Whether the call needs no number 127, or none that is in use.
-fn granted_without_127(call: Request) -> bool {
-    let Request { code, a, b, c, .. } = call;
-    !(1..=14).contains(&code) || ![a, b, c].contains(&127)
 }
 
 #[test]
