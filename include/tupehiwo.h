@@ -126,7 +126,11 @@ struct tupehiwo_report tupehiwo_report(const uint8_t *bytes, size_t nbytes,
                                        const uint64_t *words, size_t nwords,
                                        struct tupehiwo_order order);
 
-/* The lowest marked number that is from or more; 128 if there is none. */
+/*
+ * The lowest marked number that is from or more; 128 if there is none. C cuts a
+ * wider from to 16 bits, that is to a lower one: numbers may come again, but none
+ * is left out. The next after n is that from n + 1.
+ */
 uint16_t tupehiwo_next_marked(struct tupehiwo_report report, uint16_t from);
 
 /* ------------------------------------------------- one function each call */
@@ -142,12 +146,25 @@ struct tupehiwo_monitor {
     struct tupehiwo_order order; /* that of the last granted start */
 };
 
-/* Any call: what each of the functions below is made of. */
-static inline struct tupehiwo_answer tupehiwo_do(struct tupehiwo_monitor *m, uint16_t code,
-                                                 uint16_t a, uint16_t b, uint16_t c, uint16_t d,
-                                                 uint16_t e)
+/*
+ * A number as a request holds it. The functions below take 64 bits, since C cuts
+ * a wider number to fit without a word: 65,537 would be task 1. What does not fit
+ * becomes 65,535. No thing, no level and no call has that number, so that it is
+ * refused (TUPEHIWO_NUMBER, a level with TUPEHIWO_SCALE) in its place.
+ */
+static inline uint16_t tupehiwo_narrow(uint64_t number)
 {
-    struct tupehiwo_request request = {code, a, b, c, d, e};
+    return (uint16_t)(number < 65535 ? number : 65535);
+}
+
+/* Any call: what each of the functions below is made of. */
+static inline struct tupehiwo_answer tupehiwo_do(struct tupehiwo_monitor *m, uint64_t code,
+                                                 uint64_t a, uint64_t b, uint64_t c, uint64_t d,
+                                                 uint64_t e)
+{
+    struct tupehiwo_request request = {tupehiwo_narrow(code), tupehiwo_narrow(a),
+                                       tupehiwo_narrow(b),    tupehiwo_narrow(c),
+                                       tupehiwo_narrow(d),    tupehiwo_narrow(e)};
     return tupehiwo_perform(m->bytes, TUPEHIWO_BYTES, m->words, TUPEHIWO_WORDS, &m->tally,
                             m->order, request);
 }
@@ -164,101 +181,101 @@ static inline uint8_t tupehiwo_start(struct tupehiwo_monitor *m, struct tupehiwo
 }
 
 /* A task reads an object through the object's driver. */
-static inline uint8_t tupehiwo_read(struct tupehiwo_monitor *m, uint16_t task, uint16_t driver,
-                                    uint16_t object)
+static inline uint8_t tupehiwo_read(struct tupehiwo_monitor *m, uint64_t task, uint64_t driver,
+                                    uint64_t object)
 {
     return tupehiwo_do(m, TUPEHIWO_CODE_READ, task, driver, object, 0, 0).verdict;
 }
 
 /* A task writes an object through the object's driver. */
-static inline uint8_t tupehiwo_write(struct tupehiwo_monitor *m, uint16_t task, uint16_t driver,
-                                     uint16_t object)
+static inline uint8_t tupehiwo_write(struct tupehiwo_monitor *m, uint64_t task, uint64_t driver,
+                                     uint64_t object)
 {
     return tupehiwo_do(m, TUPEHIWO_CODE_WRITE, task, driver, object, 0, 0).verdict;
 }
 
 /* Makes a new task from an image object. */
-static inline uint8_t tupehiwo_execute(struct tupehiwo_monitor *m, uint16_t creator,
-                                       uint16_t image, uint16_t made, uint16_t level,
-                                       uint16_t read_level)
+static inline uint8_t tupehiwo_execute(struct tupehiwo_monitor *m, uint64_t creator,
+                                       uint64_t image, uint64_t made, uint64_t level,
+                                       uint64_t read_level)
 {
     return tupehiwo_do(m, TUPEHIWO_CODE_EXECUTE, creator, image, made, level, read_level)
         .verdict;
 }
 
-/* Makes a new object in a container that creator and driver may write. */
-static inline uint8_t tupehiwo_create(struct tupehiwo_monitor *m, uint16_t creator,
-                                      uint16_t driver, uint16_t made, uint16_t container,
-                                      uint16_t level)
+/* Makes a new object in a container that creator and driver hold write access to. */
+static inline uint8_t tupehiwo_create(struct tupehiwo_monitor *m, uint64_t creator,
+                                      uint64_t driver, uint64_t made, uint64_t container,
+                                      uint64_t level)
 {
     return tupehiwo_do(m, TUPEHIWO_CODE_CREATE, creator, driver, made, container, level)
         .verdict;
 }
 
 /* Makes a new object in no container. */
-static inline uint8_t tupehiwo_create_root(struct tupehiwo_monitor *m, uint16_t creator,
-                                           uint16_t driver, uint16_t made, uint16_t level)
+static inline uint8_t tupehiwo_create_root(struct tupehiwo_monitor *m, uint64_t creator,
+                                           uint64_t driver, uint64_t made, uint64_t level)
 {
     return tupehiwo_do(m, TUPEHIWO_CODE_CREATE_ROOT, creator, driver, made, level, 0).verdict;
 }
 
 /* Moves an object from one container to another. */
-static inline uint8_t tupehiwo_move(struct tupehiwo_monitor *m, uint16_t task, uint16_t driver,
-                                    uint16_t object, uint16_t from, uint16_t to)
+static inline uint8_t tupehiwo_move(struct tupehiwo_monitor *m, uint64_t task, uint64_t driver,
+                                    uint64_t object, uint64_t from, uint64_t to)
 {
     return tupehiwo_do(m, TUPEHIWO_CODE_MOVE, task, driver, object, from, to).verdict;
 }
 
 /* Deletes an empty object from its container, with its flows and accesses. */
-static inline uint8_t tupehiwo_delete(struct tupehiwo_monitor *m, uint16_t task,
-                                      uint16_t driver, uint16_t object, uint16_t container)
+static inline uint8_t tupehiwo_delete(struct tupehiwo_monitor *m, uint64_t task,
+                                      uint64_t driver, uint64_t object, uint64_t container)
 {
     return tupehiwo_do(m, TUPEHIWO_CODE_DELETE, task, driver, object, container, 0).verdict;
 }
 
 /* A task calls another and takes its answer. */
-static inline uint8_t tupehiwo_call(struct tupehiwo_monitor *m, uint16_t caller,
-                                    uint16_t callee)
+static inline uint8_t tupehiwo_call(struct tupehiwo_monitor *m, uint64_t caller,
+                                    uint64_t callee)
 {
     return tupehiwo_do(m, TUPEHIWO_CODE_CALL, caller, callee, 0, 0, 0).verdict;
 }
 
 /* A task invokes another without an answer. */
-static inline uint8_t tupehiwo_invoke(struct tupehiwo_monitor *m, uint16_t invoker,
-                                      uint16_t invokee)
+static inline uint8_t tupehiwo_invoke(struct tupehiwo_monitor *m, uint64_t invoker,
+                                      uint64_t invokee)
 {
     return tupehiwo_do(m, TUPEHIWO_CODE_INVOKE, invoker, invokee, 0, 0, 0).verdict;
 }
 
 /* Task z, which reads object x and feeds y, passes x on: flow x to y. */
-static inline uint8_t tupehiwo_pass(struct tupehiwo_monitor *m, uint16_t z, uint16_t x,
-                                    uint16_t y)
+static inline uint8_t tupehiwo_pass(struct tupehiwo_monitor *m, uint64_t z, uint64_t x,
+                                    uint64_t y)
 {
     return tupehiwo_do(m, TUPEHIWO_CODE_PASS, z, x, y, 0, 0).verdict;
 }
 
 /* Task x, which feeds object z, reaches the task y that reads it: flow x to y. */
-static inline uint8_t tupehiwo_post(struct tupehiwo_monitor *m, uint16_t x, uint16_t z,
-                                    uint16_t y)
+static inline uint8_t tupehiwo_post(struct tupehiwo_monitor *m, uint64_t x, uint64_t z,
+                                    uint64_t y)
 {
     return tupehiwo_do(m, TUPEHIWO_CODE_POST, x, z, y, 0, 0).verdict;
 }
 
 /* Task x, which feeds task z, reaches what z feeds: flow x to y. */
-static inline uint8_t tupehiwo_find(struct tupehiwo_monitor *m, uint16_t x, uint16_t z,
-                                    uint16_t y)
+static inline uint8_t tupehiwo_find(struct tupehiwo_monitor *m, uint64_t x, uint64_t z,
+                                    uint64_t y)
 {
     return tupehiwo_do(m, TUPEHIWO_CODE_FIND, x, z, y, 0, 0).verdict;
 }
 
 /* Marks a task from outside, and its objects. */
-static inline uint8_t tupehiwo_mark(struct tupehiwo_monitor *m, uint16_t task)
+static inline uint8_t tupehiwo_mark(struct tupehiwo_monitor *m, uint64_t task)
 {
     return tupehiwo_do(m, TUPEHIWO_CODE_MARK, task, 0, 0, 0, 0).verdict;
 }
 
 /* Marks one thing that a marked one feeds, and its objects if it is a task. */
-static inline uint8_t tupehiwo_step(struct tupehiwo_monitor *m, uint16_t x)
+static inline uint8_t tupehiwo_step(struct tupehiwo_monitor *m, uint64_t x)
 {
     return tupehiwo_do(m, TUPEHIWO_CODE_STEP, x, 0, 0, 0, 0).verdict;
 }
@@ -276,7 +293,7 @@ static inline struct tupehiwo_report tupehiwo_marked(const struct tupehiwo_monit
 }
 
 /* The word for a verdict, as "granted"; "unknown" for a number that is none. */
-static inline const char *tupehiwo_word(uint8_t verdict)
+static inline const char *tupehiwo_word(uint64_t verdict)
 {
     static const char *const words[] = {"granted", "slipped", "state",  "order", "number",
                                         "taken",   "driver",  "place",  "held",  "scale",

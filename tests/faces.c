@@ -3,10 +3,7 @@
  * the memory of its monitor. A perform of the test's own stands in for the
  * library and keeps what it was lent. Compiled as C and as C++.
  */
-#include <stdio.h>
-#include <string.h>
-
-#include "tupehiwo.h"
+#include "calls.h"
 
 static struct {
     const void *bytes, *words, *tally;
@@ -15,8 +12,6 @@ static struct {
     struct tupehiwo_request request;
     uint8_t verdict; /* what to answer */
 } lent;
-
-static int failures;
 
 struct tupehiwo_answer tupehiwo_perform(uint8_t *bytes, size_t nbytes, uint64_t *words,
                                         size_t nwords, struct tupehiwo_tally *tally,
@@ -47,14 +42,6 @@ struct tupehiwo_report tupehiwo_report(const uint8_t *bytes, size_t nbytes,
     return report;
 }
 
-static void expect(int holds, const char *what)
-{
-    if (!holds) {
-        printf("%s: not as named\n", what);
-        failures++;
-    }
-}
-
 static int memory_of(const struct tupehiwo_monitor *m)
 {
     return lent.bytes == m->bytes && lent.nbytes == 1024 && lent.words == m->words &&
@@ -63,46 +50,74 @@ static int memory_of(const struct tupehiwo_monitor *m)
 
 /* The verdict came back, and the request had this code and these arguments. */
 static void expect_request(const struct tupehiwo_monitor *m, uint8_t verdict, const char *what,
-                           uint16_t code, uint16_t count)
+                           uint16_t code, const uint64_t *numbers)
 {
     const struct tupehiwo_request q = lent.request;
-    const uint16_t given[5] = {q.a, q.b, q.c, q.d, q.e};
+    const uint64_t given[MOST_NUMBERS] = {q.a, q.b, q.c, q.d, q.e};
     expect(memory_of(m) && lent.tally == &m->tally, what);
     expect(verdict == lent.verdict && q.code == code, what);
-    for (uint16_t n = 0; n < 5; n++)
-        expect(given[n] == (n < count ? 101 + n : 0), what);
+    expect(memcmp(given, numbers, sizeof given) == 0, what);
     lent.verdict++;
 }
 
 static void check_calls(struct tupehiwo_monitor *m)
 {
-    expect_request(m, tupehiwo_read(m, 101, 102, 103), "read", 1, 3);
-    expect_request(m, tupehiwo_write(m, 101, 102, 103), "write", 2, 3);
-    expect_request(m, tupehiwo_execute(m, 101, 102, 103, 104, 105), "execute", 3, 5);
-    expect_request(m, tupehiwo_create(m, 101, 102, 103, 104, 105), "create", 4, 5);
-    expect_request(m, tupehiwo_create_root(m, 101, 102, 103, 104), "create root", 5, 4);
-    expect_request(m, tupehiwo_move(m, 101, 102, 103, 104, 105), "move", 6, 5);
-    expect_request(m, tupehiwo_delete(m, 101, 102, 103, 104), "delete", 7, 4);
-    expect_request(m, tupehiwo_call(m, 101, 102), "call", 8, 2);
-    expect_request(m, tupehiwo_invoke(m, 101, 102), "invoke", 9, 2);
-    expect_request(m, tupehiwo_pass(m, 101, 102, 103), "pass", 10, 3);
-    expect_request(m, tupehiwo_post(m, 101, 102, 103), "post", 11, 3);
-    expect_request(m, tupehiwo_find(m, 101, 102, 103), "find", 12, 3);
-    expect_request(m, tupehiwo_mark(m, 101), "mark", 13, 1);
-    expect_request(m, tupehiwo_step(m, 101), "step", 14, 1);
+    const uint64_t given[MOST_NUMBERS] = {101, 102, 103, 104, 105};
+    for (unsigned i = 0; i < CALLS; i++) {
+        uint64_t handed_on[MOST_NUMBERS] = {0, 0, 0, 0, 0};
+        memcpy(handed_on, given, (calls[i].things + calls[i].levels) * sizeof given[0]);
+        uint8_t verdict = calls[i].ask(m, given);
+        expect_request(m, verdict, calls[i].name, calls[i].code, handed_on);
+    }
+}
+
+/* What does not fit is handed on as 65,535, each number by itself; 65,535 fits. */
+static void check_wide_numbers(struct tupehiwo_monitor *m)
+{
+    for (unsigned i = 0; i < CALLS; i++)
+        for (unsigned place = 0; place < calls[i].things + calls[i].levels; place++) {
+            uint64_t handed_on[MOST_NUMBERS];
+            memcpy(handed_on, calls[i].fit, sizeof handed_on);
+            handed_on[place] = 65535;
+            for (unsigned which = 0; which < WIDE; which++) {
+                uint64_t number = wide(which, calls[i].fit[place]);
+                uint8_t verdict = ask_with(m, &calls[i], place, number);
+                expect_request(m, verdict, calls[i].name, calls[i].code, handed_on);
+            }
+            uint8_t verdict = ask_with(m, &calls[i], place, 65535);
+            expect_request(m, verdict, calls[i].name, calls[i].code, handed_on);
+        }
+}
+
+static void check_spread_and_report(struct tupehiwo_monitor *m)
+{
+    const uint64_t none[MOST_NUMBERS] = {0, 0, 0, 0, 0};
     struct tupehiwo_answer answer = tupehiwo_spread(m);
-    expect_request(m, answer.verdict, "spread", 15, 0);
+    expect_request(m, answer.verdict, "spread", 15, none);
     expect(answer.rounds == 99, "rounds");
     expect(tupehiwo_marked(m).ones == 2 && memory_of(m), "report");
+}
+
+/* Any call hands on its code and numbers; a code that does not fit becomes 65,535. */
+static void check_any_call(struct tupehiwo_monitor *m)
+{
+    const uint64_t numbers[MOST_NUMBERS] = {1, 2, 3, 4, 5};
+    uint8_t verdict = tupehiwo_do(m, 65534, 1, 2, 3, 4, 5).verdict;
+    expect_request(m, verdict, "any call", 65534, numbers);
+    for (unsigned which = 0; which < WIDE; which++) {
+        verdict = tupehiwo_do(m, wide(which, 0), 1, 2, 3, 4, 5).verdict;
+        expect_request(m, verdict, "a wide code", 65535, numbers);
+    }
 }
 
 /* A granted start keeps its order, a refused one the old. */
 static void check_start(struct tupehiwo_monitor *m)
 {
     const struct tupehiwo_order first = {{3, 2}, 2, 1}, second = {{1}, 1, 0};
+    const uint64_t none[MOST_NUMBERS] = {0, 0, 0, 0, 0};
     lent.verdict = TUPEHIWO_GRANTED;
     uint8_t verdict = tupehiwo_start(m, first);
-    expect_request(m, verdict, "start", 0, 0);
+    expect_request(m, verdict, "start", 0, none);
     expect(memcmp(&m->order, &first, sizeof first) == 0, "the order of a granted start");
     lent.verdict = TUPEHIWO_ORDER;
     expect(tupehiwo_start(m, second) == TUPEHIWO_ORDER, "refused start");
@@ -117,6 +132,8 @@ static void check_words(void)
                                         "path",    "rule",    "filled", "still", "unknown"};
     for (uint8_t verdict = 0; verdict < 15; verdict++)
         expect(strcmp(tupehiwo_word(verdict), words[verdict]) == 0, words[verdict]);
+    expect(strcmp(tupehiwo_word(256), "unknown") == 0, "the word of 256");
+    expect(strcmp(tupehiwo_word((uint64_t)-1), "unknown") == 0, "the word of -1");
 }
 
 int main(void)
@@ -124,6 +141,9 @@ int main(void)
     static struct tupehiwo_monitor m;
     check_start(&m);
     check_calls(&m);
+    check_wide_numbers(&m);
+    check_spread_and_report(&m);
+    check_any_call(&m);
     check_words();
     return failures != 0;
 }

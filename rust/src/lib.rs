@@ -1,11 +1,12 @@
 //! A safe face of the integrity monitor.
 //!
-//! The monitor follows *tasks* and *objects*. Each has a *level*, and the
-//! levels are ordered: a task must not be fed by what is lower than itself.
-//! Every object has a task as its *driver*, through which it is read and
-//! written. The monitor records accesses and *flows*, and refuses what the
-//! levels forbid. When a task turns out to be captured it is *marked* from
-//! outside, and a *spread* then marks all that it may have tainted.
+//! The monitor follows *tasks* and *objects*. Each has a *level*. The levels are
+//! ordered, though some may be unrelated: while nothing is marked, a thing is fed
+//! only by what its level is at or below. Every object has a task as its
+//! *driver*, through which it is read and written. The monitor records accesses
+//! and *flows*, and refuses what the levels forbid. When a task turns out to be
+//! captured it is *marked* from outside, and a *spread* then marks all that it
+//! may have tainted.
 //!
 //! Load a state, mark, spread, read the list:
 //!
@@ -23,7 +24,8 @@
 //! assert_eq!(monitor.execute(0, 11, 1, 0, 0), Verdict::Granted);
 //! assert_eq!(monitor.execute(0, 11, 2, 0, 0), Verdict::Granted);
 //!
-//! // Task 1 feeds task 2; the table is above it and may not be written.
+//! // Task 1 feeds task 2. It may not write the table, whose level is not at or
+//! // below its own.
 //! assert_eq!(monitor.invoke(1, 2), Verdict::Granted);
 //! assert_eq!(monitor.write(1, 0, 10), Verdict::Rule);
 //!

@@ -105,8 +105,9 @@ impl Monitor {
 
     /// A task reads an object through the object's driver.
     ///
-    /// An honest driver lets a task read only what is not below it; a marked
-    /// one lets it slip:
+    /// An honest driver lets a task read only an object that the task's level, or
+    /// its read level, is at or below; unrelated levels fail. Where nothing else
+    /// fails, a marked driver lets the read slip:
     ///
     /// ```
     /// use tupehiwo::{Monitor, Order, Verdict};
@@ -144,7 +145,7 @@ impl Monitor {
         self.ask(code::EXECUTE, [creator, image, new, level, read_level])
     }
 
-    /// Makes a new object in a container that creator and driver may write.
+    /// Makes a new object in a container that creator and driver hold write access to.
     pub fn create(
         &mut self,
         creator: u16,

@@ -77,7 +77,8 @@ impl Author<'_> {
         unreachable!("the place is below the sum of the weights")
     }
 
-    fn unknown_code(&mut self) -> u16 {
+    /// A code that names no call; cut to eight bits, some would.
+    pub fn unknown_code(&mut self) -> u16 {
         self.rng.pick(&[16, 17, 18, 31, 127, 255, 256, 257, 271, 4096, 32768, 65535])
     }
 

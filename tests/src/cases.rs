@@ -1,5 +1,5 @@
 //! Inputs for the script program: the paper's sample, the edges of the grammar,
-//! the stories in examples/, and random scripts.
+//! lines of all lengths, the stories in examples/, and random scripts.
 
 use std::fs;
 use std::path::{Path, PathBuf};
@@ -81,17 +81,117 @@ const EDGES: &[(&str, &str)] = &[
     ("start 1 0 1\nmar\nmarks 0", "0\nbad\nbad\nmarked\n"),
 ];
 
-/// The edges of the grammar, and lines that are longer than any call.
+/// The edges of the grammar.
 pub fn edges() -> Vec<Case> {
     let named = |(n, (input, output)): (usize, &(&str, &str))| {
         Case::new(format!("edge-{n}"), input.as_bytes(), output.as_bytes())
     };
-    let mut cases: Vec<Case> = EDGES.iter().enumerate().map(named).collect();
-    let (nines, spaces) = ("9".repeat(1 << 20), " ".repeat(1 << 20));
-    let long =
-        format!("start 1 0 1\nstart 17 {nines}\nmark {nines}\n{nines}\nmark{spaces}0\nmark 0\n");
-    cases.push(Case::new("long-lines", long.as_bytes(), b"0\n3\nbad\nbad\nbad\n0\nmarked 0\n"));
+    EDGES.iter().enumerate().map(named).collect()
+}
+
+/// Lines far longer than any call, each between two that are good.
+pub fn long_lines() -> Vec<Case> {
+    let mut lines: Vec<(Vec<u8>, &str)> = Vec::new();
+    for (length, bytes) in [(100_000, &b"x 09\0\xFF"[..]), (1 << 20, b"9 ")] {
+        for &byte in bytes {
+            let rest = vec![byte; length];
+            lines.push(([b"start 17 ", &rest[..]].concat(), "3"));
+            lines.push(([b"mark 0", &rest[..]].concat(), "bad"));
+            lines.push(([&rest[..], b"mark 0"].concat(), "bad"));
+        }
+    }
+    vec![between_good_lines("long-lines", &lines)]
+}
+
+/// A start of sixteen levels in a line, each number in five digits: no call is longer.
+pub fn longest_call() -> String {
+    let rows = (0..16).map(|level| format!(" {:05}", u16::MAX << level));
+    format!("start 00016 00015{}", rows.collect::<String>())
+}
+
+/// Lines of every length about that of the longest call, of each kind. What stands
+/// at a line's end would be a good line if the line were cut there.
+pub fn lengths_of_lines() -> Vec<Case> {
+    let kinds: [(&str, fn(usize) -> (String, &'static str)); 8] = [
+        ("too-many", |length| (padded("start 17 ", "x", length, ""), "3")),
+        ("too-many-spaces", |length| (padded("start 17", " ", length, ""), "3")),
+        ("no-count", |length| (padded("start 17", "7", length, ""), "bad")),
+        ("spaces-behind", |length| (padded("mark 0", " ", length, ""), "bad")),
+        ("zeros-behind", |length| (padded("mark ", "0", length, ""), "bad")),
+        ("good-end", |length| (padded("", "x", length, "spread"), "bad")),
+        ("good-end-after-spaces", |length| (padded("mark 0", " ", length, "mark 0"), "bad")),
+        ("longest", cut_or_extended),
+    ];
+    let mut cases = Vec::new();
+    for (name, line_of) in kinds {
+        let lines: Vec<(Vec<u8>, &str)> =
+            (100..=140).map(|length| (line_of(length).0.into_bytes(), line_of(length).1)).collect();
+        cases.push(between_good_lines(name, &lines));
+        for (line, answer) in &lines[10..32] {
+            let name = format!("{name}-unended-{}", line.len());
+            cases.push(Case::new(name, line, format!("{answer}\nmarked\n").as_bytes()));
+        }
+    }
     cases
+}
+
+/// As many of a byte between a beginning and an end that the line has this length.
+fn padded(begin: &str, byte: &str, length: usize, end: &str) -> String {
+    format!("{begin}{}{end}", byte.repeat(length - begin.len() - end.len()))
+}
+
+/// The longest call cut to a length, or with a further row. Cut within its last
+/// row it is a start still, under an order that fails.
+fn cut_or_extended(length: usize) -> (String, &'static str) {
+    let call = longest_call();
+    match length {
+        113 => (call, "0"),
+        109..113 => (call[..length].into(), "3"),
+        114.. => (padded(&format!("{call} "), "0", length, ""), "bad"),
+        _ => (call[..length].into(), "bad"),
+    }
+}
+
+/// Lines and their answers, each between two spreads that must be granted.
+fn between_good_lines(name: &str, lines: &[(Vec<u8>, &str)]) -> Case {
+    let (mut input, mut output) = (b"start 1 0 1\nspread\n".to_vec(), "0\n0 0\n".to_string());
+    for (line, answer) in lines {
+        input.extend([line, &b"\nspread\n"[..]].concat());
+        output += &format!("{answer}\n0 0\n");
+    }
+    Case::new(name, &input, format!("{output}marked\n").as_bytes())
+}
+
+/// As many empty lines: each is bad.
+pub fn empty_lines(count: usize) -> Case {
+    let output = format!("{}marked\n", "bad\n".repeat(count));
+    Case::new(format!("empty-lines-{count}"), &vec![b'\n'; count], output.as_bytes())
+}
+
+/// A script with lines put in so that one ends at each multiple of `size`, or a
+/// byte before or behind it, as `place` is 0, -1 or 1.
+pub fn aligned(script: &[u8], size: usize, place: isize) -> Vec<u8> {
+    let mut input = Vec::new();
+    let mut end = size.saturating_add_signed(place);
+    for line in script.split_inclusive(|&byte| byte == b'\n') {
+        while input.len() + line.len() > end {
+            input.extend(filler(end - input.len()));
+            end += size;
+        }
+        input.extend(line);
+    }
+    input
+}
+
+/// A line of as many bytes, its line feed counted, that changes nothing.
+fn filler(bytes: usize) -> Vec<u8> {
+    let refused = b"start 17 ";
+    let mut line = vec![b'x'; bytes];
+    if bytes > refused.len() {
+        line[..refused.len()].copy_from_slice(refused);
+    }
+    line.last_mut().into_iter().for_each(|byte| *byte = b'\n');
+    line
 }
 
 /// The stories in examples/.

@@ -1,6 +1,7 @@
 //! The library and the model side by side.
 
-use crate::model::{BYTES, Lengths, Model, Number, State, WORDS};
+use crate::causes::Made;
+use crate::model::{BYTES, Lengths, Model, Number, RECORD, State, Thing, WORDS};
 use crate::table::Table;
 use tupehiwo::ffi::{self, Answer, Order, Report, Request, Tally};
 
@@ -64,8 +65,9 @@ impl Pair {
     /// Puts another byte in the place of what the calls left, sound or not.
     pub fn set_byte(&mut self, place: usize, value: u8) {
         self.bytes[MARGIN + place] = value;
-        let words = &self.words[MARGIN..][..WORDS];
-        self.model.state = State::read(&self.bytes[MARGIN..][..BYTES], words);
+        let record = place - place % RECORD;
+        let bytes = &self.bytes[MARGIN + record..][..RECORD];
+        self.model.state.things[place / RECORD] = Thing::read(bytes);
     }
 
     pub fn set_tally(&mut self, tally: Tally) {
@@ -108,7 +110,8 @@ impl Pair {
         if answer != expected {
             self.differ(&order, request, &format!("answers {answer:?}, model {expected:?}"));
         }
-        self.table.count_call(request.code, answer.verdict);
+        let made = Made { state: &self.model.state, lengths, order: &order, request };
+        self.table.count_call(request.code, answer.verdict, made.cause(answer.verdict));
         self.compare_memory(&order, request);
         self.compare_report(lengths, order, request);
         answer

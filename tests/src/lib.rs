@@ -7,15 +7,20 @@
 //! - [`author`]: random calls that look at the state, so that each verdict occurs.
 //! - [`worlds`]: random orders and memories, reached from a start or not.
 //! - [`table`]: how often each call gave each verdict, and which pairs cannot occur.
+//! - [`causes`]: the same for the causes that share a verdict.
 
 pub mod author;
 pub mod cases;
+pub mod causes;
 pub mod compare;
 pub mod model;
 pub mod rng;
 pub mod script;
 pub mod table;
 pub mod worlds;
+
+use std::env;
+use std::path::{Path, PathBuf};
 
 use tupehiwo::ffi::Request;
 
@@ -25,4 +30,14 @@ pub fn request(code: u16, arguments: &[u16]) -> Request {
     all[..arguments.len()].copy_from_slice(arguments);
     let [a, b, c, d, e] = all;
     Request { code, a, b, c, d, e }
+}
+
+/// The script program: that which TUPEHIWO_TRAIL names, else the one in target/bin
+/// of the repository. If it is missing, that is a failure.
+pub fn trail() -> PathBuf {
+    let name = "TUPEHIWO_TRAIL";
+    let usual = || Path::new(env!("CARGO_MANIFEST_DIR")).join("../target/bin/trail");
+    let program = env::var_os(name).map_or_else(usual, PathBuf::from);
+    assert!(program.is_file(), "{} is missing ({name} may name another)", program.display());
+    program
 }

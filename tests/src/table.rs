@@ -1,14 +1,18 @@
 //! How often each call gave each verdict, and which pairs cannot occur.
 
-use std::fmt;
+use std::ops::Range;
+use std::panic::{self, AssertUnwindSafe};
+use std::sync::atomic::{AtomicBool, Ordering};
+use std::{fmt, thread};
 
+use crate::causes::{Cause, Causes};
 use tupehiwo::ffi::code;
 
 /// The rows of the table: the codes, then what is no code.
 pub const UNKNOWN: usize = 16;
 pub const REPORT: usize = 17;
 
-const CALLS: [&str; 18] = [
+pub const CALLS: [&str; 18] = [
     "start",
     "read",
     "write",
@@ -114,40 +118,39 @@ fn impossible(call: usize, verdict: usize) -> Option<&'static str> {
     (!can).then_some(limited.why_no_other)
 }
 
-#[derive(Clone)]
-pub struct Table([[u64; VERDICTS.len()]; CALLS.len()]);
-
-impl Default for Table {
-    fn default() -> Table {
-        Table([[0; VERDICTS.len()]; CALLS.len()])
-    }
+#[derive(Clone, Default)]
+pub struct Table {
+    counts: [[u64; VERDICTS.len()]; CALLS.len()],
+    pub causes: Causes,
 }
 
 impl Table {
-    pub fn count_call(&mut self, code: u16, verdict: u8) {
+    pub fn count_call(&mut self, code: u16, verdict: u8, cause: Option<Cause>) {
         let call = usize::from(code).min(UNKNOWN);
-        self.0[call][usize::from(verdict)] += 1;
+        self.counts[call][usize::from(verdict)] += 1;
+        cause.into_iter().for_each(|cause| self.causes.count(cause));
     }
 
     pub fn count_report(&mut self, verdict: u8) {
-        self.0[REPORT][usize::from(verdict)] += 1;
+        self.counts[REPORT][usize::from(verdict)] += 1;
     }
 
     /// Calls counted, reports left out.
     pub fn calls(&self) -> u64 {
-        self.0[..REPORT].iter().flatten().sum()
+        self.counts[..REPORT].iter().flatten().sum()
     }
 
     pub fn add(&mut self, other: &Table) {
-        for (mine, theirs) in self.0.iter_mut().flatten().zip(other.0.iter().flatten()) {
-            *mine += theirs;
+        for (mine, theirs) in self.counts.iter_mut().zip(&other.counts) {
+            mine.iter_mut().zip(theirs).for_each(|(mine, theirs)| *mine += theirs);
         }
+        self.causes.add(&other.causes);
     }
 
     /// Panics unless each pair that can occur did, and no other.
     pub fn must_be_complete(&self) {
         let mut faults = Vec::new();
-        for (call, row) in self.0.iter().enumerate() {
+        for (call, row) in self.counts.iter().enumerate() {
             for (verdict, &count) in row.iter().enumerate() {
                 let pair = format!("{} {}", CALLS[call], VERDICTS[verdict]);
                 match impossible(call, verdict) {
@@ -161,12 +164,39 @@ impl Table {
     }
 }
 
+/// The tables of some numbered tests together, made by as many workers as can run
+/// at once. They stop at the first failure.
+pub fn sum_of(tests: Range<u64>, table_of: impl Fn(u64) -> Table + Sync) -> Table {
+    let workers = thread::available_parallelism().map_or(1, usize::from);
+    let failed = AtomicBool::new(false);
+    let work = |worker: usize| {
+        let mut table = Table::default();
+        let own = tests.clone().skip(worker).step_by(workers);
+        for number in own.take_while(|_| !failed.load(Ordering::Relaxed)) {
+            let done = panic::catch_unwind(AssertUnwindSafe(|| table_of(number)));
+            table.add(&done.unwrap_or_else(|failure| {
+                failed.store(true, Ordering::Relaxed);
+                panic::resume_unwind(failure)
+            }));
+        }
+        table
+    };
+    let mut sum = Table::default();
+    thread::scope(|scope| {
+        let begin = |worker| scope.spawn(move || work(worker));
+        for worker in (0..workers).map(begin).collect::<Vec<_>>() {
+            sum.add(&worker.join().unwrap_or_else(|failure| panic::resume_unwind(failure)));
+        }
+    });
+    sum
+}
+
 impl fmt::Display for Table {
     /// A dash stands where the pair cannot occur.
     fn fmt(&self, f: &mut fmt::Formatter<'_>) -> fmt::Result {
         write!(f, "{:>10}", "")?;
         VERDICTS.iter().try_for_each(|verdict| write!(f, "{verdict:>8}"))?;
-        for (call, row) in self.0.iter().enumerate() {
+        for (call, row) in self.counts.iter().enumerate() {
             write!(f, "\n{:>10}", CALLS[call])?;
             for (verdict, count) in row.iter().enumerate() {
                 match impossible(call, verdict) {

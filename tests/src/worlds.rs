@@ -1,6 +1,8 @@
 //! Random orders and random memory.
 
-use crate::model::{Lengths, Mark, Number, Object, Pairs, State, THINGS, Task, Thing, passes};
+use crate::model::{
+    Lengths, Mark, Number, Object, Pairs, State, THINGS, Task, Thing, at_or_below, passes,
+};
 use crate::rng::Rng;
 use tupehiwo::ffi::{Order, Tally};
 
@@ -33,14 +35,15 @@ pub fn order(rng: &mut Rng) -> Order {
 /// An order that is near to a given one, or far from any: it may fail or pass.
 pub fn other_order(rng: &mut Rng, near: Order) -> Order {
     let mut other = near;
+    let (less, more) = (near.count.saturating_sub(1), near.count.saturating_add(1));
     match rng.below(8) {
         0 => other = order(rng),
         1 => other = Order::default(),
-        2 => other.count = rng.pick(&[0, near.count + 1, near.count - 1, 16, 17, 200, 65535]),
-        3 => other.top = rng.pick(&[0, near.count, near.count - 1, 15, 16, 65535]),
+        2 => other.count = rng.pick(&[0, more, less, 16, 17, 200, 256, 65535]),
+        3 => other.top = rng.pick(&[0, near.count, less, 15, 16, near.top | 256, 65535]),
         4 => other.rows.fill_with(|| rng.bits() as u16),
         _ => {
-            let rows = if rng.once_in(4) { 16 } else { near.count.into() };
+            let rows = if rng.once_in(4) { 16 } else { near.count.clamp(1, 16).into() };
             let row = rng.below(rows);
             other.rows[row] ^= 1 << rng.below(16);
         }
@@ -82,10 +85,36 @@ pub fn tally(rng: &mut Rng) -> Tally {
 /// Sound memory under an order, which calls need not reach: any levels, drivers,
 /// containers and marks, any words.
 pub fn sound_state(rng: &mut Rng, order: &Order) -> State {
-    let mut state = State::started(order.top);
-    let (fill, share) = (1 + rng.below(10), 1 + rng.below(9));
+    let (fill, last) = (1 + rng.below(10), rng.once_in(2));
+    let numbers = 1..THINGS as Number;
     let used: Vec<Number> =
-        (1..THINGS as Number).filter(|&n| rng.below(10) < fill || n == 127).collect();
+        numbers.filter(|&n| rng.below(10) < fill || (n == 127 && last)).collect();
+    let mut state = with_things(rng, order, &used);
+    scatter_words(rng, &mut state);
+    state
+}
+
+/// Such memory with few things, and many or few of all flows and accesses among
+/// these and some free numbers: most calls fit it, and it is quickly copied.
+pub fn dense_state(rng: &mut Rng, order: &Order) -> State {
+    let mut numbers: Vec<Number> = (1..THINGS as Number).collect();
+    rng.shuffle(&mut numbers);
+    numbers.truncate(14);
+    let used = 4 + rng.below(9);
+    let mut state = with_things(rng, order, &numbers[..used]);
+    numbers.push(0);
+    for pairs in [&mut state.flows, &mut state.reads, &mut state.writes] {
+        let share = 1 + rng.below(7);
+        let all = numbers.iter().flat_map(|&row| numbers.iter().map(move |&end| (row, end)));
+        pairs.extend(all.filter(|_| rng.below(10) < share));
+    }
+    state
+}
+
+/// The core and these numbers, each a task or an object.
+fn with_things(rng: &mut Rng, order: &Order, used: &[Number]) -> State {
+    let mut state = State::started(order.top);
+    let share = 1 + rng.below(9);
     let (mut tasks, objects): (Vec<Number>, Vec<Number>) =
         used.iter().partition(|_| rng.below(10) < share);
     for &n in &tasks {
@@ -98,21 +127,26 @@ pub fn sound_state(rng: &mut Rng, order: &Order) -> State {
     for &n in &objects {
         let within = rng.pick(&objects);
         let object = Object {
-            level: rng.below(order.count.into()) as u16,
+            level: level(rng, order.count),
             driver: rng.pick(&tasks),
             container: (within != n && !rng.once_in(4)).then_some(within),
             marked: rng.once_in(3),
         };
         state.put(n, Thing::Object(object));
     }
-    scatter_words(rng, &mut state);
     state
 }
 
-fn random_task(rng: &mut Rng, count: u16) -> Task {
+/// A level below the count that a byte can hold; 0 if there is none.
+pub fn level(rng: &mut Rng, count: u16) -> u16 {
+    rng.below(count.clamp(1, 256).into()) as u16
+}
+
+/// Any task.
+pub fn random_task(rng: &mut Rng, count: u16) -> Task {
     Task {
-        level: rng.below(count.into()) as u16,
-        read_level: rng.below(count.into()) as u16,
+        level: level(rng, count),
+        read_level: level(rng, count),
         mark: rng.pick(&[Mark::Unmarked, Mark::Unmarked, Mark::Marked, Mark::Outside]),
     }
 }
@@ -141,4 +175,48 @@ fn scatter(rng: &mut Rng, pairs: &mut Pairs, [sources, ends, all]: [&[Number]; 3
         let (sources, ends) = if fit { (sources, ends) } else { (all, all) };
         pairs.insert((rng.pick(sources), rng.pick(ends)));
     }
+}
+
+/// What sound memory may hold that no list of calls leaves, and whether this has it.
+pub fn unreached(state: &State, order: &Order) -> [(&'static str, bool); 9] {
+    let is_free = |n: Number| state.thing(n).is_err();
+    let pairs = || [&state.flows, &state.reads, &state.writes].into_iter().flatten();
+    let level = |n: Number| state.thing(n).ok().and_then(|thing| thing.level());
+    let exceeds =
+        |a: Option<u16>, b: Option<u16>| a.zip(b).is_some_and(|(a, b)| !at_or_below(order, a, b));
+    let tasks = || state.tasks().filter_map(|n| state.task(n).ok());
+    let none_outside = tasks().all(|task| task.mark != Mark::Outside);
+    let any_object = |is: &dyn Fn(Object) -> bool| state.objects().any(|(_, object)| is(object));
+    [
+        ("a bit in the row of a free number", pairs().any(|&(row, _)| is_free(row))),
+        ("a bit in the column of a free number", pairs().any(|&(_, end)| is_free(end))),
+        ("an access of an object", state.reads.iter().any(|&(row, _)| state.object(row).is_ok())),
+        ("a circle of containers", state.objects().any(|(n, _)| is_in_itself(state, n))),
+        (
+            "an object not at or below its driver",
+            any_object(&|object| exceeds(Some(object.level), level(object.driver))),
+        ),
+        (
+            "a marked driver's unmarked object",
+            any_object(&|object| !object.marked && state.is_marked(object.driver)),
+        ),
+        (
+            "a read level not at or below the level",
+            tasks().any(|task| exceeds(Some(task.read_level), Some(task.level))),
+        ),
+        (
+            "a mark and none from outside",
+            none_outside && state.used().any(|(_, thing)| thing.is_marked()),
+        ),
+        (
+            "a flow that rises, none marked from outside",
+            none_outside && state.flows.iter().any(|&(from, to)| exceeds(level(to), level(from))),
+        ),
+    ]
+}
+
+/// Whether an object lies in itself, by way of others.
+fn is_in_itself(state: &State, object: Number) -> bool {
+    let container = |n: &Number| state.object(*n).ok().and_then(|object| object.container);
+    std::iter::successors(container(&object), container).take(THINGS).any(|outer| outer == object)
 }

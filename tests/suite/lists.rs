@@ -1,6 +1,6 @@
 //! Long random lists of calls, the library and the model held equal after each.
 
-use std::collections::BTreeSet;
+use std::collections::{BTreeMap, BTreeSet};
 
 use tupehiwo::ffi::{Order, Request, code};
 use tupehiwo_tests::author::Author;
@@ -8,7 +8,7 @@ use tupehiwo_tests::compare::Pair;
 use tupehiwo_tests::model::{Lengths, Model, Number, State, at_or_below};
 use tupehiwo_tests::request;
 use tupehiwo_tests::rng::{Rng, seed};
-use tupehiwo_tests::table::Table;
+use tupehiwo_tests::table::{Table, sum_of};
 use tupehiwo_tests::worlds;
 
 const LISTS: u64 = 1200;
@@ -109,32 +109,40 @@ fn is_refused(model: &Model, order: &Order, request: Request) -> bool {
     verdict > 1
 }
 
+fn one_list(seed: u64) -> Table {
+    let mut list = List::begin(seed);
+    for call in 1..=CALLS_OF_A_LIST {
+        list.one_call();
+        if call % 100 == 0 {
+            list.must_keep_the_limits();
+        }
+    }
+    list.pair.table
+}
+
 #[test]
 fn lists_from_a_start() {
     let first = seed("lists_from_a_start");
-    let mut table = Table::default();
-    for number in 0..LISTS {
-        let mut list = List::begin(first.wrapping_add(number));
-        for call in 1..=CALLS_OF_A_LIST {
-            list.one_call();
-            if call % 100 == 0 {
-                list.must_keep_the_limits();
-            }
-        }
-        table.add(&list.pair.table);
-    }
+    let table = sum_of(0..LISTS, |number| one_list(first.wrapping_add(number)));
     println!("{} calls in lists from a start\n{table}", table.calls());
     assert!(table.calls() > 1_000_000);
     table.must_be_complete();
 }
 
+/// In how many memories each was found that no list of calls leaves.
+type Unreached = BTreeMap<&'static str, u64>;
+
 /// Calls on sound memory that no list need leave, damaged now and then, under its
 /// own order or another.
-fn calls_on_one_memory(seed: u64, pool: &[Number]) -> Table {
+fn calls_on_one_memory(seed: u64, pool: &[Number], unreached: &mut Unreached) -> Table {
     let mut rng = Rng::new(seed);
     let mut pair = Pair::new(format!("memory of TUPEHIWO_SEED={seed}"));
     let usual = worlds::order(&mut rng);
-    pair.set_state(worlds::sound_state(&mut rng, &usual));
+    let state = worlds::sound_state(&mut rng, &usual);
+    for (what, found) in worlds::unreached(&state, &usual) {
+        *unreached.entry(what).or_default() += u64::from(found);
+    }
+    pair.set_state(state);
     pair.set_tally(worlds::tally(&mut rng));
     for _ in 0..CALLS_ON_A_MEMORY {
         if rng.once_in(40) {
@@ -157,11 +165,16 @@ fn calls_on_any_memory() {
     let first = seed("calls_on_any_memory");
     let pool: Vec<Number> = (0..128).collect();
     let mut table = Table::default();
+    let mut unreached = Unreached::new();
     for number in 0..MEMORIES {
-        table.add(&calls_on_one_memory(first.wrapping_add(number), &pool));
+        table.add(&calls_on_one_memory(first.wrapping_add(number), &pool, &mut unreached));
     }
     println!("{} calls on any memory\n{table}", table.calls());
     table.must_be_complete();
+    for (what, memories) in unreached {
+        println!("that no list leaves, in {memories} memories of {MEMORIES}: {what}");
+        assert!(memories > MEMORIES / 50);
+    }
 }
 
 /// What chains reach, by a search that knows no rounds.

@@ -21,6 +21,14 @@ fn the_edges_of_the_grammar() {
 }
 
 #[test]
+fn lines_of_every_length() {
+    assert_eq!(cases::longest_call().len(), 113);
+    cases::lengths_of_lines().iter().for_each(must_print);
+    cases::long_lines().iter().for_each(must_print);
+    must_print(&cases::empty_lines(1000));
+}
+
+#[test]
 fn the_stories_in_examples() {
     let stories = cases::stories();
     assert_eq!(stories.len(), 3);

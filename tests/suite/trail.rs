@@ -1,28 +1,17 @@
-//! The script program itself, held to the model. TUPEHIWO_TRAIL names it, else
-//! it is the one in target/bin of the repository; if it is missing, that is a
-//! failure.
+//! The script program itself, held to the model.
 
-use std::env;
 use std::fs::{self, File};
 use std::io::{BufReader, Read, Write};
-use std::path::{Path, PathBuf};
+use std::path::Path;
 use std::process::{Child, ChildStdout, Command, Stdio};
 use std::sync::mpsc;
 use std::thread;
 use std::time::Duration;
 
-use tupehiwo_tests::cases::{self, Case, damage, random_script};
+use tupehiwo_tests::cases::{self, Case, aligned, damage, random_script};
 use tupehiwo_tests::rng::{Rng, seed};
 use tupehiwo_tests::script::output;
-
-const TRAIL: &str = "TUPEHIWO_TRAIL";
-
-fn trail() -> PathBuf {
-    let usual = || Path::new(env!("CARGO_MANIFEST_DIR")).join("../target/bin/trail");
-    let program = env::var_os(TRAIL).map_or_else(usual, PathBuf::from);
-    assert!(program.is_file(), "{} is missing ({TRAIL} may name another)", program.display());
-    program
-}
+use tupehiwo_tests::trail;
 
 /// The input is given as a file, which stays where the program fails.
 fn must_print(name: &str, input: &[u8], expected: &[u8]) {
@@ -57,6 +46,18 @@ fn the_edges_of_the_grammar() {
     must_print_all(&cases::edges());
 }
 
+/// What the program keeps of a line must settle it, and the rest be no line of its own.
+#[test]
+fn lines_of_every_length() {
+    must_print_all(&cases::lengths_of_lines());
+    must_print_all(&cases::long_lines());
+}
+
+#[test]
+fn many_empty_lines() {
+    must_print_all(&[cases::empty_lines(200_000)]);
+}
+
 #[test]
 fn the_stories_in_examples() {
     must_print_all(&cases::stories());
@@ -83,6 +84,23 @@ fn a_large_script() {
     let mut rng = Rng::new(seed("a_large_script"));
     let input = random_script(&mut rng, 60_000);
     must_print("large-script", &input, &output(&input));
+}
+
+/// Input of several times the size of a buffer, with line ends about where one
+/// block of it ends and the next begins.
+#[test]
+fn line_ends_at_the_ends_of_blocks() {
+    let mut rng = Rng::new(seed("line_ends_at_the_ends_of_blocks"));
+    let script = random_script(&mut rng, 12_000);
+    assert!(script.len() > 131_072);
+    for size in [512, 4096, 16_384] {
+        for place in [-1, 0, 1] {
+            let input = aligned(&script, size, place);
+            let ends = (1..input.len() / size).map(|block| (block * size) as isize + place);
+            assert!(ends.into_iter().all(|end| input[end as usize - 1] == b'\n'));
+            must_print(&format!("blocks-{size}-{place}"), &input, &output(&input));
+        }
+    }
 }
 
 /// The program with pipes, to be spoken with.
@@ -122,23 +140,33 @@ fn it_answers_before_it_reads_on() {
     assert!(child.wait().expect("the program ends").success());
 }
 
+/// What the program prints when the input comes in pieces of up to `most` bytes.
+fn printed_for_pieces(rng: &mut Rng, input: &[u8], most: usize) -> Vec<u8> {
+    let mut rest = input.to_vec();
+    let mut pieces = Vec::new();
+    while !rest.is_empty() {
+        let size = 1 + rng.below(most.min(rest.len()));
+        pieces.push(rest.drain(..size).collect::<Vec<u8>>());
+    }
+    let mut child = spoken_with();
+    let mut stdin = child.stdin.take().expect("a pipe to the program");
+    let speaker = thread::spawn(move || {
+        for piece in pieces {
+            stdin.write_all(&piece).expect("the program listens");
+            thread::sleep(Duration::from_micros(50));
+        }
+    });
+    let printed = child.wait_with_output().expect("the program ends");
+    speaker.join().expect("all pieces were said");
+    printed.stdout
+}
+
 #[test]
 fn input_in_pieces() {
     let mut rng = Rng::new(seed("input_in_pieces"));
-    for number in 0..10 {
-        let input = random_script(&mut rng, 60);
-        let expected = output(&input);
-        let size = 1 + rng.below(9);
-        let mut child = spoken_with();
-        let mut stdin = child.stdin.take().expect("a pipe to the program");
-        let speaker = thread::spawn(move || {
-            for piece in input.chunks(size) {
-                stdin.write_all(piece).expect("the program listens");
-                thread::sleep(Duration::from_micros(50));
-            }
-        });
-        let printed = child.wait_with_output().expect("the program ends");
-        speaker.join().expect("all pieces were said");
-        assert!(printed.stdout == expected, "script {number} in pieces of {size}");
+    for (most, lines) in [(1, 60), (1, 200), (2, 60), (9, 200), (40, 600), (6000, 6000)] {
+        let input = random_script(&mut rng, lines);
+        let printed = printed_for_pieces(&mut rng, &input, most);
+        assert!(printed == output(&input), "{lines} lines in pieces of up to {most} bytes");
     }
 }

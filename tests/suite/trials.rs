@@ -1,8 +1,9 @@
-//! The paper's trials by name, and the longest spreads.
+//! The paper's trials by name, the longest spreads, and other small worlds.
 
 use tupehiwo::Verdict;
-use tupehiwo::ffi::{Order, code};
-use tupehiwo_tests::compare::Pair;
+use tupehiwo::ffi::{Order, Tally, code};
+use tupehiwo_tests::compare::{Pair, next_marked};
+use tupehiwo_tests::model::{Lengths, Object, State, Thing};
 use tupehiwo_tests::request;
 use tupehiwo_tests::worlds::Q;
 
@@ -219,4 +220,68 @@ fn a_mark_repeated_changes_only_the_tally() {
     trial.grant(code::MARK, &[DRIVER]);
     assert_eq!(trial.pair.model.state, before.state);
     assert_eq!(trial.pair.model.tally.granted, before.tally.granted + 1);
+}
+
+/// Each number is the only object in a container, the only marked source of a
+/// flow, and the last object of a driver: no loop may leave it out.
+#[test]
+fn every_number_is_looked_at() {
+    let mut pair = Pair::new("each number");
+    for number in 3..128 {
+        let object = |container, marked| Object { level: 0, driver: 0, container, marked };
+        let mut state = State::started(Q.top);
+        state.put(1, Thing::Object(object(None, false)));
+        state.put(2, Thing::Object(object(Some(1), false)));
+        state.put(number, Thing::Object(object(Some(2), true)));
+        state.writes.insert((0, 1));
+        state.flows.insert((number, 0));
+        let mut verdict_of = |code, arguments: &[u16]| {
+            pair.set_state(state.clone());
+            pair.perform(Q, request(code, arguments)).verdict
+        };
+        assert_eq!(verdict_of(code::DELETE, &[0, 0, 2, 1]), 12, "{number} in the container");
+        assert_eq!(verdict_of(code::STEP, &[0]), 0, "{number} feeds the core");
+        state.put(number, Thing::Object(object(None, false)));
+        pair.set_state(state);
+        assert_eq!(pair.perform(Q, request(code::MARK, &[0])).verdict, 0);
+        let report = pair.report_with(Lengths::RIGHT, Q);
+        assert_eq!((report.ones, next_marked(&report, 3)), (4, number));
+    }
+}
+
+#[test]
+fn counts_stop() {
+    let stop = u32::MAX;
+    for near in [stop - 2, stop - 1, stop] {
+        for count in 0..3 {
+            let mut counts = [7, 8, 9];
+            counts[count] = near;
+            let [granted, slipped, refused] = counts;
+            let mut pair = Pair::started("counts", Q);
+            slip_ready(&mut pair);
+            pair.set_tally(Tally { granted, slipped, refused });
+            for _ in 0..4 {
+                assert_eq!(pair.perform(Q, request(code::MARK, &[2])).verdict, 0);
+                assert_eq!(pair.perform(Q, request(code::READ, &[1, 2, 20])).verdict, 1);
+                assert_eq!(pair.perform(Q, request(code::MARK, &[128])).verdict, 4);
+            }
+            let stopped = pair.model.tally;
+            let counts = [stopped.granted, stopped.slipped, stopped.refused];
+            assert_eq!(counts[count], stop);
+            assert_eq!(counts.iter().filter(|&&count| count == stop).count(), 1);
+        }
+    }
+}
+
+/// A marked driver 2 at 3, whose object 20 at 2 the task 1 at 1 reads by a slip.
+fn slip_ready(pair: &mut Pair) {
+    for call in [
+        request(code::CREATE_ROOT, &[0, 0, 10, 3]),
+        request(code::EXECUTE, &[0, 10, 1, 1, 1]),
+        request(code::EXECUTE, &[0, 10, 2, 3, 3]),
+        request(code::CREATE_ROOT, &[0, 2, 20, 2]),
+        request(code::MARK, &[2]),
+    ] {
+        assert_eq!(pair.perform(Q, call).verdict, 0, "{call:?}");
+    }
 }

@@ -6,7 +6,7 @@ mod order;
 mod state;
 
 pub use order::{at_or_below, passes};
-pub use state::{BYTES, Mark, Number, Object, Pairs, State, THINGS, Task, Thing, WORDS};
+pub use state::{BYTES, Mark, Number, Object, Pairs, RECORD, State, THINGS, Task, Thing, WORDS};
 
 use events::Event;
 use tupehiwo::ffi::{Answer, Order, Report, Request, Tally, code};

@@ -7,7 +7,8 @@ pub const THINGS: usize = 128;
 pub const BYTES: usize = 1024;
 pub const WORDS: usize = 768;
 
-const RECORD: usize = 8;
+pub const RECORD: usize = 8;
+
 const WORDS_OF_A_KIND: usize = 256;
 const ROOT: u8 = 255;
 
@@ -82,7 +83,8 @@ impl Thing {
         }
     }
 
-    fn read(record: &[u8]) -> Thing {
+    /// What the bytes of a record say.
+    pub fn read(record: &[u8]) -> Thing {
         let record: [u8; RECORD] = record.try_into().expect("a record has eight bytes");
         match record {
             [0, 0, 0, 0, 0, 0, 0, 0] => Thing::Free,
@@ -105,7 +107,8 @@ impl Thing {
         }
     }
 
-    fn record(&self) -> [u8; RECORD] {
+    /// The bytes that say this.
+    pub fn record(&self) -> [u8; RECORD] {
         match *self {
             Thing::Free => [0; RECORD],
             Thing::Task(task) => {

@@ -1,0 +1,1 @@
+/^static uint8_t create(/,/^}/s/(!root \&\& !below(s, l, level(s, container)))/0/

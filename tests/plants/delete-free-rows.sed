@@ -1,0 +1,1 @@
+s/        s->words\[w\] \&= keep;/        if (used(s, w % READS \/ 2)) s->words[w] \&= keep;/

@@ -1,0 +1,1 @@
+s/{tupehiwo_narrow(code),/{(uint16_t)code,/

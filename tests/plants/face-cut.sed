@@ -1,0 +1,1 @@
+s/(number < 65535 ? number : 65535)/number/

@@ -1,0 +1,1 @@
+/^static uint8_t find(/,/^}/s/!has(s, FLOWS, x, z) || //

@@ -1,0 +1,1 @@
+s/nwords != TUPEHIWO_WORDS/nwords < TUPEHIWO_WORDS/

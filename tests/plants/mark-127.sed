@@ -1,0 +1,1 @@
+/^static void mark_objects(/,/^}/s/n < THINGS/n < THINGS - 1/

@@ -1,0 +1,1 @@
+s/ || field(s, object, CONTAINER) != from)/)/

@@ -1,0 +1,1 @@
+s/!has(s, WRITES, driver, from) || //

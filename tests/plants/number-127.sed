@@ -1,0 +1,1 @@
+/^static inline int is(/,/^}/s/n < THINGS/n < THINGS - 1/

@@ -1,0 +1,1 @@
+/^static inline int used(/,/^}/s/n < THINGS/n <= THINGS/

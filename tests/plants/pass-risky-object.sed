@@ -1,0 +1,1 @@
+s/return (!below(s, le, lo) \&\& below(s, re, lo)) || /return /

@@ -1,0 +1,1 @@
+/^static uint8_t post(/,/^}/s/ || !has(s, READS, y, z))/)/

@@ -1,0 +1,1 @@
+s/if (report.verdict == TUPEHIWO_GRANTED) {/if (report.verdict != TUPEHIWO_STATE) {/

@@ -1,0 +1,1 @@
+/^static uint8_t create(/,/^}/s/l >= s->order->count/l >= TUPEHIWO_LEVELS/

@@ -1,0 +1,1 @@
+/^static int sound(/,/^}/s/n < THINGS/n < THINGS - 1/

@@ -1,0 +1,1 @@
+s/if (!starting \&\& !sound(bytes, order))/if (!starting \&\& ordered(order) \&\& !sound(bytes, order))/

@@ -1,0 +1,1 @@
+s/bytes\[RECORD \* container\] == OBJECT/bytes[RECORD * container] != FREE/

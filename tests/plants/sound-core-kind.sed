@@ -1,0 +1,1 @@
+s/return bytes\[KIND\] == TASK \&\& /return /

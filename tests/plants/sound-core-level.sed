@@ -1,0 +1,1 @@
+s/ \&\& bytes\[LEVEL\] == order->top;/;/

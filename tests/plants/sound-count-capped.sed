@@ -1,0 +1,1 @@
+s/part(whole, LEVEL) < count/part(whole, LEVEL) < (count > 16 ? 16 : count)/

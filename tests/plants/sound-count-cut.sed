@@ -1,0 +1,1 @@
+s/sound_task(whole, order->count)/sound_task(whole, (uint8_t)order->count)/

@@ -1,0 +1,1 @@
+s/bytes\[RECORD \* driver\] != TASK/bytes[RECORD * driver] == FREE/

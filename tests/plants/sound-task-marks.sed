@@ -1,0 +1,1 @@
+s/ \&\& part(whole, MARKS) != 2;/;/

@@ -1,0 +1,1 @@
+s/part(whole, READ_LEVEL) < count/1/

@@ -1,0 +1,1 @@
+/^static void survey(/,/^}/s/n < THINGS/n < THINGS - 1/

@@ -1,0 +1,1 @@
+s/order.count > TUPEHIWO_LEVELS/order.count == TUPEHIWO_LEVELS + 1/

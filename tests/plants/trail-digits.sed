@@ -1,0 +1,1 @@
+s/digit - first <= MOST_DIGITS \&\& //

@@ -1,0 +1,1 @@
+/-- input \*\//,/-- words \*\//s/BLOCK/112/g

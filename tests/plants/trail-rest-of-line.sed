@@ -1,0 +1,1 @@
+s/input.too_long = length == BLOCK;/input.too_long = 0;/

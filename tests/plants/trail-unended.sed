@@ -1,0 +1,1 @@
+s/            if (length == 0)/            if (length < BLOCK)/
