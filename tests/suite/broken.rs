@@ -2,7 +2,7 @@
 //! standard error, and prints no line of marked numbers.
 
 use std::fs;
-use std::io::Write;
+use std::io::{Read, Write};
 use std::os::fd::OwnedFd;
 use std::os::unix::net::UnixStream;
 use std::os::unix::process::ExitStatusExt;
@@ -153,4 +153,41 @@ fn an_output_that_breaks_off() {
         assert!(!printed.is_empty() && output(&input).starts_with(&printed));
     }
     fs::remove_file(&path).expect("what it printed can be removed");
+}
+
+/// Both ends of a line whose writer never waits: a full one is a failure.
+fn impatient_line() -> (UnixStream, UnixStream) {
+    let (ours, theirs) = UnixStream::pair().expect("two ends of a line");
+    theirs.set_nonblocking(true).expect("a line that can be full");
+    (ours, theirs)
+}
+
+/// An output that fails once and then takes more: no answer may follow the gap.
+/// Standard error is full at first, so that the program waits with its message
+/// until the output has room again.
+#[test]
+fn an_output_that_fails_for_a_while() {
+    let line = |n: usize| if n * n % 97 == 3 { "spread\n" } else { "\n" };
+    let input = (0..200_000).map(line).collect::<String>().into_bytes();
+    let (mut ours, theirs) = impatient_line();
+    let (mut told, mut tell) = impatient_line();
+    while tell.write(&[b'.'; 512]).is_ok() {}
+    tell.set_nonblocking(false).expect("a line that waits");
+    let mut command = by_shell("exec \"$0\"");
+    command.stdout(OwnedFd::from(theirs)).stderr(OwnedFd::from(tell));
+    let mut child = command.spawn().expect("the program runs");
+    drop(command);
+    let mut stdin = child.stdin.take().expect("a pipe to the program");
+    let expected = output(&input);
+    let speaker = thread::spawn(move || stdin.write_all(&input).is_ok());
+    thread::sleep(Duration::from_millis(300));
+    let mut printed = vec![0; 1 << 20];
+    let before = ours.read(&mut printed).expect("the first answers");
+    printed.truncate(before);
+    let listener = thread::spawn(move || told.read_to_end(&mut Vec::new()));
+    ours.read_to_end(&mut printed).expect("the other answers");
+    must_end(child);
+    speaker.join().expect("the input was said or refused");
+    listener.join().expect("it was heard").expect("what it said can be read");
+    assert!(expected.starts_with(&printed), "answers follow a gap");
 }
