@@ -1,3 +1,4 @@
+use mathlib.Core.Path.{refl}
 use borrow.Author.Needs.{needs}
 use Rattle.model.specs.State.{task, object, marked}
 use Rattle.creation.specs.CreationLaws.{execute-verdict}
@@ -6,7 +7,18 @@ use Rattle.creation.proofs.judge.execute.Tie as tie
 
 returns : tie.Need-returns
 unfolding task object marked
-returns c = λ ws. rw execute-verdict (cc)
+returns c =
+    λ ws. rw execute-verdict
+    (simp (
+      c .marked .ensures,
+      c .before .given .ensures,
+      c .before .before .unless2 .ensures,
+      c .before .before .before .unless .ensures,
+      c .before .before .before .before .at-or-below .ensures,
+      c .before .before .before .before .before .level-below .ensures,
+      c .before .before .before .before .before .before .is-object .ensures,
+      c .before .before .before .before .before .before .before .is-task .ensures,
+    ) refl)
 
 pub execute-spec : {M : Type 1} → statement M
 execute-spec =
