@@ -1,14 +1,14 @@
 -- Rows 2 and 3 of the table, as a function that leaves at them meets them.
 -- Assumes nothing.
 use mathlib.Core.Path.{_≡_, refl, sym, ap, subst, _∙_}
-use mathlib.Core.Bool.{Bool, true, false, _&&_, and-eq-true-iff}
+use mathlib.Core.Bool.{Bool, true, false, not, _&&_, and-eq-true-iff}
 use mathlib.Core.List.{List, [], _∷_}
 use mathlib.Core.Logic.{inl, inr}
 use Prim.Native.Nat.{ℕ}
 use lib.ListN.{length}
 use native.Mathlib.Omega.{arith}
 use lib.Dec.{ltb}
-use borrow.Author.Tests.{eqb-true, eq-eqb, ltb-true}
+use borrow.Author.Tests.{eqb-true, eq-eqb, ltb-true, not-true, not-false}
 use types.Run.{OneOf}
 use denote.Enum.Declared.{tagOf}
 use Rattle.bits.specs.AllLaws.{and-i, and-l, and-r}
@@ -51,13 +51,13 @@ judged o m (Step x) h = (_, refl)
 judged o m Spread h = (_, refl)
 
 module _ (o : Order) (m : Memory) (c : Call) (later : c ≡ Start → ⊥) where
-  pub unfit : (lengthsFit m && sound o (m .bytes)) ≡ false → perform o m c ≡ record { verdict = row-state; rounds = 0; memory = m }
+  pub unfit : not (lengthsFit m && sound o (m .bytes)) ≡ true → perform o m c ≡ record { verdict = row-state; rounds = 0; memory = m }
   unfolding fitted
-  unfit e = judged o m c later .1 ∙ stopped _ row-state m _ e
+  unfit e = judged o m c later .1 ∙ stopped _ row-state m _ (not-true _ e)
 
-  pub disordered : (lengthsFit m && sound o (m .bytes)) ≡ true → orderPasses o ≡ false → perform o m c ≡ record { verdict = row-order; rounds = 0; memory = m }
+  pub disordered : not (lengthsFit m && sound o (m .bytes)) ≡ false → not (orderPasses o) ≡ true → perform o m c ≡ record { verdict = row-order; rounds = 0; memory = m }
   unfolding fitted
-  disordered f e = judged o m c later .1 ∙ passed _ row-state m _ f ∙ stopped _ row-order m _ e
+  disordered f e = judged o m c later .1 ∙ passed _ row-state m _ (not-false _ f) ∙ stopped _ row-order m _ (not-true _ e)
 
 -- ---- behind them
 
@@ -65,10 +65,10 @@ module _ (o : Order) (m : Memory) (c : Call) (later : c ≡ Start → ⊥) where
 abbrev pub Ready : Order → Memory → Type 0
 Ready o m = (length (m .bytes) ≡ 1024) × (length (m .words) ≡ 768) × (orderPasses o ≡ true) × (sound o (m .bytes) ≡ true)
 
-pub ready : (o : Order) (m : Memory) → (lengthsFit m && sound o (m .bytes)) ≡ true → orderPasses o ≡ true → Ready o m
+pub ready : (o : Order) (m : Memory) → not (lengthsFit m && sound o (m .bytes)) ≡ false → not (orderPasses o) ≡ false → Ready o m
 unfolding lengthsFit
 ready o m f p =
-    let l = simp and-eq-true-iff at f in (eqb-true _ _ (l .0 .0), eqb-true _ _ (l .0 .1), p, l .1)
+    let l = simp and-eq-true-iff at (not-false (lengthsFit m && sound o (m .bytes)) f) in (eqb-true _ _ (l .0 .0), eqb-true _ _ (l .0 .1), not-false _ p, l .1)
 
 through : (o : Order) (m : Memory) (out : Outcome) → Ready o m → out ≡ fitted o m out
 unfolding fitted lengthsFit

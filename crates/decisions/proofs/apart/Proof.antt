@@ -1,3 +1,4 @@
+use mathlib.Core.Path.{refl}
 use borrow.Author.Needs.{needs}
 use Rattle.decisions.specs.Decisions.{apart}
 use Rattle.decisions.proofs.apart.Statement.{statement}
@@ -5,7 +6,7 @@ use Rattle.decisions.proofs.apart.Tie as tie
 
 returns : tie.Need-returns
 unfolding apart
-returns c = cc
+returns c = simp (c .unless .ensures) refl
 
 pub apart-spec : {M : Type 1} → statement M
 apart-spec = tie.close (tie.spec (λ c κs. search needs) returns)

@@ -18,11 +18,11 @@ abbrev μ-loop : tie.MeasureT-loop
 
 returns : tie.Need-returns Inv-loop μ-loop
 unfolding rowsPass
-returns c = rw (lt-leb _ _ (c .if1 .taken))
+returns c = rw (lt-leb (c .before .args .count) 16 (omega arith))
 
 returns-2 : tie.Need-returns-2 Inv-loop μ-loop
 unfolding rowsPass
-returns-2 c = rw (le-leb _ _ (c .before .if1 .left), le-ltb _ _ (c .if2 .taken))
+returns-2 c = rw (le-leb (c .before .before .args .count) 16 (omega arith), le-ltb (c .before .before .args .top) (c .before .before .args .count) (omega arith))
 
 loop-holds : tie.Need-loop-holds Inv-loop μ-loop
 loop-holds c = (omega arith, λ k l. absurd (not-suc-le-zero l))
@@ -30,9 +30,9 @@ loop-holds c = (omega arith, λ k l. absurd (not-suc-le-zero l))
 returns-3 : tie.Need-returns-3 Inv-loop μ-loop
 unfolding rowsPass
 returns-3 c =
-    let s = c .before .before .before .before in
+    let a = c .before .before .before .before .before .before .args in
     let e = c .before .level-passes .ensures .1 (not-true _ (c .if3 .taken)) in
-    rw (le-leb _ _ (s .before .if1 .left), lt-ltb _ _ (s .if2 .left), all-fails (s .before .before .args .count) _ (c .before .before .before .loop .a) (omega arith) e)
+    rw (le-leb (a .count) 16 (omega arith), lt-ltb (a .top) (a .count) (omega arith), all-fails (a .count) _ (c .before .before .before .loop .a) (omega arith) e)
 
 loop-again : tie.Need-loop-again Inv-loop μ-loop
 loop-again c =
@@ -44,9 +44,11 @@ loop-again c =
 returns-4 : tie.Need-returns-4 Inv-loop μ-loop
 unfolding rowsPass
 returns-4 c =
-    let s = c .before .before .before in
-    let e : c .before .before .loop .a ≡ s .before .before .args .count = omega arith in
-    rw (le-leb _ _ (s .before .if1 .left), lt-ltb _ _ (s .if2 .left), covered-pass _ _ _ (s .before .before .pre) (s .before .if1 .left) (rw e at (c .before .before .loop .inv .1))) (c .rest-empty .ensures)
+    let s = c .before .before .before .before .before in
+    let a = s .args in
+    let few : a .count ≤ 16 = omega arith in
+    let e : c .before .before .loop .a ≡ a .count = omega arith in
+    rw (le-leb (a .count) 16 few, lt-ltb (a .top) (a .count) (omega arith), covered-pass _ _ _ (s .pre) few (rw e at (c .before .before .loop .inv .1))) (c .rest-empty .ensures)
 
 pub rows-pass-spec : {M : Type 1} → statement M
 rows-pass-spec =

@@ -1,6 +1,6 @@
-use mathlib.Core.Path.{sym, ap, _∙_}
+use mathlib.Core.Path.{_≡_, sym, ap, _∙_}
 use borrow.Author.Needs.{needs}
-use borrow.Author.Tests.{not-true, not-false}
+use Rattle.model.specs.Verdicts.{row-state, row-order}
 use Rattle.model.specs.State.{memory}
 use Rattle.model.specs.Monitor.{perform}
 use Rattle.monitor.proofs.Rows.{no-rounds, unfit, disordered, ready, no-start}
@@ -15,30 +15,30 @@ returns c =
     let m = memory (s .args .bytes .now) (s .args .words .now) in
     no-rounds (c .plain .ensures) (e .start .ensures) ∙ ap (perform (s .args .order) m) (sym (t .enum-told .given .1))
 
+-- the state is answered first, then the order
+state-told : (c : tie.After-plain2) → (c .plain2 .result .verdict ≡ row-state) × (c .plain2 .result .rounds ≡ 0)
+state-told c = c .plain2 .ensures
+
+order-told : (c : tie.After-plain3) → (c .plain3 .result .verdict ≡ row-order) × (c .plain3 .result .rounds ≡ 0)
+order-told c = c .plain3 .ensures
+
+-- each row is told by what was tested, wherever in the function that was
 returns-2 : tie.Need-returns-2
 returns-2 c =
-    let f = c .before .before in
-    let k = f .before .before .before in
-    let s = k .before .before .before in
+    let s : tie.Start = search in
     let m = memory (s .args .bytes .now) (s .args .words .now) in
-    no-rounds (c .plain2 .ensures) (sym (unfit (s .args .order) m (s .args .call) (no-start _ (k .match .keys2)) (sym (f .fits2 .ensures) ∙ not-true _ (c .before .if1 .taken))))
+    no-rounds (state-told c) (sym (unfit (s .args .order) m (s .args .call) (no-start (s .args .call) (search)) (cc)))
 
 returns-3 : tie.Need-returns-3
 returns-3 c =
-    let p = c .before .before in
-    let f = p .before .before in
-    let k = f .before .before .before in
-    let s = k .before .before .before in
+    let s : tie.Start = search in
     let m = memory (s .args .bytes .now) (s .args .words .now) in
-    no-rounds (c .plain3 .ensures)
-    (sym (disordered (s .args .order) m (s .args .call) (no-start _ (k .match .keys2)) (sym (f .fits2 .ensures) ∙ not-false _ (p .before .if1 .left)) (sym (p .order-passes .ensures) ∙ not-true _ (c .before .if2 .taken))))
+    no-rounds (order-told c) (sym (disordered (s .args .order) m (s .args .call) (no-start (s .args .call) (search)) (cc) (cc)))
 
 event-requires : tie.Need-event-requires
 event-requires c κs =
-    let p = c .before .before .before in
-    let f = p .before .before in
-    let s = f .before .before .before .before .before .before in
-    ready (s .args .order) (memory (s .args .bytes .now) (s .args .words .now)) (sym (f .fits2 .ensures) ∙ not-false _ (p .before .if1 .left)) (sym (p .order-passes .ensures) ∙ not-false _ (c .before .before .if2 .left))
+    let s : tie.Start = search in
+    ready (s .args .order) (memory (s .args .bytes .now) (s .args .words .now)) (cc) (cc)
 
 pub answer-spec : {M : Type 1} → statement M
 answer-spec =

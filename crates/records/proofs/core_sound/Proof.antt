@@ -1,3 +1,4 @@
+use mathlib.Core.Path.{refl}
 use Rattle.records.specs.Records.{coreRecord}
 use borrow.Author.Needs.{needs}
 use Rattle.records.proofs.core_sound.Statement.{statement}
@@ -14,7 +15,7 @@ cast-result c = search needs
 
 returns : tie.Need-returns
 unfolding coreRecord
-returns c = simp (c .before .before .is-task .ensures, c .before .field .ensures)
+returns c = simp (c .before .before .is-task .ensures, c .before .field .ensures) refl
 
 pub core-sound-spec : {M : Type 1} → statement M
 core-sound-spec = tie.close (tie.spec is-task-requires field-requires cast-result returns)

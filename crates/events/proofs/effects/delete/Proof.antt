@@ -1,3 +1,4 @@
+use mathlib.Core.Path.{refl}
 use borrow.Author.Needs.{needs}
 use Rattle.model.specs.Effects.{effect, effects}
 use Rattle.events.proofs.effects.delete.Statement.{statement}
@@ -5,7 +6,7 @@ use Rattle.events.proofs.effects.delete.Tie as tie
 
 returns : tie.Need-returns
 unfolding effect effects
-returns c = cc
+returns c = simp (c .before .before .add-if .ensures, c .before .before .before .before .before .before .clear-thing .ensures, c .before .before .before .before .before .before .before .before .before .before .set-record .ensures) refl
 
 pub delete-spec : {M : Type 1} → statement M
 delete-spec =

@@ -1,3 +1,4 @@
+use mathlib.Core.Path.{refl}
 use native.Mathlib.Nat.{add-zero}
 use native.Mathlib.Omega.{arith}
 use Prim.Native.Nat.{_+_, _*_}
@@ -18,7 +19,7 @@ cast-result c = omega (arith, c .shared-slice-known2 .given (8 * c .before .befo
 
 returns-2 : tie.Need-returns-2
 unfolding objectOf object isObject field
-returns-2 c = rw (add-zero, eq-eqb _ 2 (c .before .if1 .left))
+returns-2 c = rw (add-zero, eq-eqb _ 2 (c .before .if1 .left)) refl
 
 pub is-object-of-spec : {M : Type 1} → statement M
 is-object-of-spec =
