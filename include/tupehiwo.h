@@ -81,7 +81,10 @@ enum {
 
 /* ------------------------------------------------------------ the library */
 
-/* Bit j of row i says that level i is at or below level j. */
+/*
+ * Bit j of row i says that level i is at or below level j. C cuts what is wider
+ * than these fields without a word: set them from numbers that fit.
+ */
 struct tupehiwo_order {
     uint16_t rows[16];
     uint16_t count;

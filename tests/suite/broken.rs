@@ -155,6 +155,24 @@ fn an_output_that_breaks_off() {
     fs::remove_file(&path).expect("what it printed can be removed");
 }
 
+/// A file that is full within the last line: a list that was cut off lacks its
+/// line feed.
+#[test]
+fn a_list_that_breaks_off() {
+    let path = Path::new(env!("CARGO_TARGET_TMPDIR")).join("cut-list");
+    let line = format!("ulimit -f 1; trap '' XFSZ; exec \"$0\" >{}", path.display());
+    for bad in 121..=126 {
+        let input = [b"start 1 0 1\nmark 0\n".as_slice(), &b"\n".repeat(bad)].concat();
+        let ended = run(&line, &input);
+        let printed = fs::read(&path).expect("what it printed can be read");
+        let (whole, told) = (output(&input), String::from_utf8_lossy(&ended.stderr));
+        assert!(whole.starts_with(&printed) && printed.len() == whole.len().min(512));
+        assert_eq!(printed.ends_with(b"\n"), printed.len() == whole.len(), "{printed:?}");
+        assert_eq!(told.contains(OUTPUT), printed.len() < whole.len(), "{told:?}");
+    }
+    fs::remove_file(&path).expect("what it printed can be removed");
+}
+
 /// Both ends of a line whose writer never waits: a full one is a failure.
 fn impatient_line() -> (UnixStream, UnixStream) {
     let (ours, theirs) = UnixStream::pair().expect("two ends of a line");

@@ -105,9 +105,14 @@ DriversAbove = (o : Order) (m : Memory) (is : List Item) → Reached o m is → 
 
 -- ---- no claim is empty
 
--- any calls and reports at all may follow a start, if each is lent that start's order; P1 is a start that is granted
-abbrev pub OwnOrderAdmissible : Type 0
-OwnOrderAdmissible = (o : Order) (m : Memory) (is : List Item) → ((i : Item) → List·Memᴰ i is → lent i ≡ o) → Admissible is (begun o m)
+-- any calls and reports at all may follow a granted start, if each is lent that start's order; P1 is a start that is granted
+abbrev pub OwnOrderReached : Type 0
+OwnOrderReached = (o : Order) (m : Memory) (is : List Item) → perform o m Start .verdict ≡ granted → ((i : Item) → List·Memᴰ i is → lent i ≡ o) → Reached o m is
+
+-- after every list, the core may be marked from outside under its order
+abbrev pub MarkGranted : Type 0
+MarkGranted = (o : Order) (m : Memory) (is : List Item) → Reached o m is
+    → perform (run is (begun o m) .order) (run is (begun o m) .memory) (Mark 0) .verdict ≡ granted
 
 -- after every list, a spread under its order is granted
 abbrev pub SpreadGranted : Type 0

@@ -12,10 +12,11 @@ use lib.Seq.{set-getD}
 use borrow.Author.Tests.{eqb-true, leb-true}
 use Rattle.bits.specs.AllLaws.{either, and-l, and-r, not-so}
 use Rattle.levels.specs.declared.Order.{Order}
-use Rattle.records.specs.Records.{numbers, recordSize, field, setField}
+use Rattle.records.specs.Records.{numbers, recordSize, field, setField, isTask}
+use Rattle.records.specs.RecordLaws.{core-task}
 use Rattle.model.specs.declared.Call.the-variants.{Start}
 use Rattle.model.specs.Verdicts.{granted, slipped, row-state, row-number, isDone}
-use Rattle.model.specs.State.{Memory, driverOf, marked, hasFlow, hasRead, hasWrite}
+use Rattle.model.specs.State.{Memory, task, driverOf, marked, hasFlow, hasRead, hasWrite}
 use Rattle.model.specs.StateLaws.{outside-mark}
 use Rattle.model.specs.Effects.{withBytes, objectOf, mark-outside, effect, effects}
 use Rattle.model.specs.Events.{Test, need, Outcome, unless, firstFailing, verdictOf, outcome, mark}
@@ -25,7 +26,7 @@ use Rattle.model.specs.MarkLaws.{where-rest}
 use Rattle.model.specs.TableLaws.{refusals, start-done, by-call}
 use Rattle.model.specs.Trials.{Q}
 use Rattle.containment.specs.Lists.{Item, asks, reports, lent, Standing, Role, starting, marking, other, role, entered, next, run, Admitted, Admissible, begun}
-use Rattle.containment.specs.Claims.{Reached, Containment, Determined, RepeatedMark, NeverUnsound, FreeBare, DriversAbove, OwnOrderAdmissible, SpreadGranted, GrantedUnreached}
+use Rattle.containment.specs.Claims.{Reached, Containment, Determined, RepeatedMark, NeverUnsound, FreeBare, DriversAbove, OwnOrderReached, MarkGranted, SpreadGranted, GrantedUnreached}
 use Rattle.containment.specs.Tables.{Table, flows, reads, writes, has}
 use Rattle.containment.specs.Invariant.{standing, Joined, Limits, joins, Invariant, contained}
 use Rattle.containment.specs.ItemsKeep.{start-keeps, run-keeps}
@@ -154,9 +155,16 @@ under-one o (i ∷ is) s e l =
     let h = l i (List·Memᴰ·head refl) ∙ sym e in
     (admitted i s h, under-one o is (next i s) (next-order i s h ∙ e) (λ j k. l j (List·Memᴰ·tail k)))
 
-pub own-order-admissible : OwnOrderAdmissible
+pub own-order-reached : OwnOrderReached
 unfolding begun
-own-order-admissible o m is = under-one o is (begun o m) refl
+own-order-reached o m is g h = record { granted-start = g; admissible = under-one o is (begun o m) refl h }
+
+pub mark-granted : MarkGranted
+unfolding outcome verdictOf firstFailing unless mark task isTask
+mark-granted o m is r =
+    let s = run is (begun o m) in
+    let i = reached o m is r in
+    ap (λ (out : Outcome). out .verdict) (fitted-out s i (outcome (s .memory) (mark (s .order) (s .memory) 0))) ∙ rw (core-task (s .order) (s .memory .bytes) (i .is-sound))
 
 pub spread-granted : SpreadGranted
 unfolding spread

@@ -15,10 +15,10 @@ ghost use Rattle.levels.specs.declared.Order.{Order};
 ghost use Rattle.levels.specs.Order.{orderPasses};
 ghost use Rattle.records.specs.Records.{sound};
 ghost use Rattle.model.specs.State.{memory};
-ghost use Rattle.model.specs.Events as events;
+ghost use Rattle.model.specs.Events as model·events;
 ghost use Rattle.model.specs.Events.{left, outcome, verdictOf};
-ghost use Rattle.model.specs.Spread as rounds;
-ghost use Rattle.model.specs.Monitor as monitor;
+ghost use Rattle.model.specs.Spread as model·spread;
+ghost use Rattle.model.specs.Monitor as model·monitor;
 ghost use Rattle.model.specs.Monitor.{noReport, firstFrom, nextMarked};
 ghost use Rattle.marking.specs.Reports.{reportOf};
 
@@ -65,7 +65,7 @@ fn marked_report(bytes: &[u8]) -> Report
 
 // What is marked; all zero where the lengths, the bytes or the order are refused.
 pub fn report(bytes: &[u8], words: &[u64], order: Order) -> Report
-    ensures { λ r. ⌜ r ≡ monitor.report order (memory (now (bytes .entry)) (now (words .entry))) ⌝ }
+    ensures { λ r. ⌜ r ≡ model·monitor.report order (memory (now (bytes .entry)) (now (words .entry))) ⌝ }
 {
     if words.len() != WORDS {
         return no_report(model::STATE);
@@ -114,7 +114,7 @@ pub fn next_marked(report: Report, from: u16) -> u16
 // A task is marked from outside, and its objects are marked.
 pub fn mark(bytes: &mut [u8], words: &[u64], order: Order, task: u16) -> u8
     requires { ⌜ (length (now bytes) ≡ 1024) × (length (now words) ≡ 768) × (orderPasses order ≡ true) × (sound order (now bytes) ≡ true) ⌝ }
-    ensures { λ r. ⌜ left r 0 (now (bytes .exit)) (now (words .entry)) ≡ outcome (memory (now (bytes .entry)) (now (words .entry))) (events.mark order (memory (now (bytes .entry)) (now (words .entry))) task) ⌝ }
+    ensures { λ r. ⌜ left r 0 (now (bytes .exit)) (now (words .entry)) ≡ outcome (memory (now (bytes .entry)) (now (words .entry))) (model·events.mark order (memory (now (bytes .entry)) (now (words .entry))) task) ⌝ }
 {
     if !records::is_task(bytes, task) {
         return model::NUMBER;
@@ -126,7 +126,7 @@ pub fn mark(bytes: &mut [u8], words: &[u64], order: Order, task: u16) -> u8
 // The verdict of a step.
 fn step_verdict(bytes: &[u8], words: &[u64], x: u16) -> u8
     requires { ⌜ length (now bytes) ≡ 1024 ⌝ }
-    ensures { λ r. ⌜ ((order : Order) → r ≡ verdictOf (events.step order (memory (now (bytes .entry)) (now (words .entry))) x)) ⌝ }
+    ensures { λ r. ⌜ ((order : Order) → r ≡ verdictOf (model·events.step order (memory (now (bytes .entry)) (now (words .entry))) x)) ⌝ }
 {
     if records::field(bytes, x, records::KIND) == records::FREE {
         return model::NUMBER;
@@ -144,7 +144,7 @@ fn step_verdict(bytes: &[u8], words: &[u64], x: u16) -> u8
 // An unmarked thing that a marked one has a flow to is marked and, for a task, its objects.
 pub fn step(bytes: &mut [u8], words: &[u64], order: Order, x: u16) -> u8
     requires { ⌜ (length (now bytes) ≡ 1024) × (length (now words) ≡ 768) × (orderPasses order ≡ true) × (sound order (now bytes) ≡ true) ⌝ }
-    ensures { λ r. ⌜ left r 0 (now (bytes .exit)) (now (words .entry)) ≡ outcome (memory (now (bytes .entry)) (now (words .entry))) (events.step order (memory (now (bytes .entry)) (now (words .entry))) x) ⌝ }
+    ensures { λ r. ⌜ left r 0 (now (bytes .exit)) (now (words .entry)) ≡ outcome (memory (now (bytes .entry)) (now (words .entry))) (model·events.step order (memory (now (bytes .entry)) (now (words .entry))) x) ⌝ }
 {
     let verdict = step_verdict(bytes, words, x);
     if verdict == model::GRANTED {
@@ -156,7 +156,7 @@ pub fn step(bytes: &mut [u8], words: &[u64], order: Order, x: u16) -> u8
 // Rounds of marking along the flows until one marks nothing; how many marked something.
 pub fn spread(bytes: &mut [u8], words: &[u64], order: Order) -> u8
     requires { ⌜ (length (now bytes) ≡ 1024) × (length (now words) ≡ 768) × (orderPasses order ≡ true) × (sound order (now bytes) ≡ true) ⌝ }
-    ensures { λ r. ⌜ left 0 r (now (bytes .exit)) (now (words .entry)) ≡ rounds.spread (memory (now (bytes .entry)) (now (words .entry))) ⌝ }
+    ensures { λ r. ⌜ left 0 r (now (bytes .exit)) (now (words .entry)) ≡ model·spread.spread (memory (now (bytes .entry)) (now (words .entry))) ⌝ }
 {
     let sources = sets::with_field(bytes, MARKS);
     if sets::is_empty(sources) {

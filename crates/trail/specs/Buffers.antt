@@ -17,7 +17,7 @@ answerSize = 8
 abbrev pub markedSize : ℕ
 markedSize = 1024
 
--- there is room for the answers to a piece, each of which answers at least one byte, and for the end
+-- the output buffer has room for the answers to a piece, eight bytes for each of its bytes, and for the last answer and the marked numbers
 abbrev pub Sized : List ℕ → List ℕ → List ℕ → Type 0
 Sized input line out = (length line ≡ lineSize) × (answerSize * length input ≤ length out) × (answerSize + markedSize ≤ length out)
 
@@ -27,12 +27,13 @@ progressIn r used out bs ws = record { printed = take used out; run = r; memory 
 abbrev pub readingIn : State → List ℕ → List ℕ → List ℕ → List ℕ → Reading
 readingIn s line out bs ws = record { line = take (s .filled) line; progress = progressIn (s .run) (s .used) out bs ws }
 
--- some input, fed from its first byte on, leaves r, and all that it printed is written
+-- some input, fed from its first byte on, leaves r, and what it printed is no longer held
 pub record SomeInput (r : Reading) : Type 0 where
   pub input : List ℕ
   pub leaves : r ≡ emptied (afterPiece input nothingFed)
 
--- the memory is that of a script at its end, and what it prints last is left to be written
+-- the memory is that of a script at its end, and what it prints last is left to be written. That its input is the one on standard input,
+-- no contract can say
 pub record SomeScript (used : ℕ) (out bs ws : List ℕ) : Type 0 where
   pub input : List ℕ
   pub ends : memory bs ws ≡ atEnd input .memory

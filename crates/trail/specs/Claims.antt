@@ -11,16 +11,16 @@ use Rattle.records.specs.Records.{numbers}
 use Rattle.model.specs.declared.Call.the-variants.{Start}
 use Rattle.model.specs.State.{marked}
 use Rattle.model.specs.Verdicts.{row-order}
-use Rattle.model.specs.Monitor.{raised, report}
+use Rattle.model.specs.Monitor.{raised}
 use Rattle.script.specs.Script.{noOrder, startWord, pieces, isNumber, value, readLine}
-use Rattle.script.specs.Print.{replyLine}
+use Rattle.script.specs.Print.{lineFeed, replyLine}
 use Rattle.script.specs.declared.Line.{Line}
 use Rattle.script.specs.declared.Line.the-variants.{Bad, Starts, Asks}
 use Rattle.script.specs.declared.print.Reply.the-variants.{Verdict}
 use Rattle.containment.specs.Lists as lists
 use Rattle.containment.specs.Lists.{Item, asks, Standing, begun}
 use Rattle.containment.specs.Claims.{Reached, Contained}
-use Rattle.trail.specs.Marked.{isMarked}
+use Rattle.trail.specs.Marked.{markedText, listed}
 use Rattle.trail.specs.Script.{Progress, lines, zeros, nothingRead, afterLine, atEnd, output}
 use Rattle.trail.specs.Feeding.{Reading, nothingFed, afterPiece, closed, written}
 
@@ -46,12 +46,12 @@ EndsAlike = (input : List ℕ) → closed (afterPiece input nothingFed) ≡ atEn
 -- ---- the last line lists exactly what is marked
 
 abbrev pub ListsMarked : Type 0
-ListsMarked = (input : List ℕ) (x : ℕ) → x < numbers
-    → isMarked (report (atEnd input .run .order) (atEnd input .memory)) x ≡ marked (atEnd input .memory) x
+ListsMarked = (input : List ℕ) → output input ≡ atEnd input .printed ++ (markedText ++ listed (marked (atEnd input .memory)) numbers ++ lineFeed ∷ [])
 
 -- ---- what a script runs is a list of demand 3
 
--- the calls of a script's lines, each with the order that it is lent: a start its own, any other that of the last granted start
+-- the calls of a script's lines, each with the order that it is lent: a start its own, any other that of the last granted start,
+-- before it all zero
 unfoldable pub callsBy : Order → Order → Line → List Item
 callsBy kept o Bad = []
 callsBy kept o Starts = asks o Start ∷ []
@@ -64,10 +64,11 @@ callsOf (l ∷ ls) p = callsBy (p .run .order) (readLine l .order) (readLine l .
 abbrev pub calls : List ℕ → List Item
 calls input = callsOf (lines input) nothingRead
 
--- where a list stands that begins on the memory of zeros, before and after
+-- before the first granted start: memory of zeros, the order all zero, nothing named by a mark
 abbrev pub unstarted : Standing
 unstarted = record { order = noOrder; memory = zeros; outside = [] }
 
+-- where a list of calls stands that begins there
 unfoldable pub standing : List Item → Standing
 standing is = lists.run is unstarted
 
@@ -80,8 +81,8 @@ pub record Begun (is : List Item) : Type 0 where
   pub reached : Reached order (standing earlier .memory) items
   pub leaves : standing is ≡ lists.run items (begun order (standing earlier .memory))
 
--- the memory and the order that a script ends with are those that the list of its calls leaves; either no start was granted, or the list
--- is one of demand 3 from a granted start on
+-- the memory and the order that a script ends with are those that the list of its calls leaves; either they leave the memory and the order of
+-- zeros, as where no start is granted, or they are a list of demand 3 from a granted start on
 pub record IsList (input : List ℕ) : Type 0 where
   pub memory : atEnd input .memory ≡ standing (calls input) .memory
   pub order : atEnd input .run .order ≡ standing (calls input) .order
@@ -92,7 +93,7 @@ RunsLists = (input : List ℕ) → IsList input
 
 -- so what a script ends with is contained
 abbrev pub ScriptContained : Type 0
-ScriptContained = (input : List ℕ) → Contained (standing (calls input))
+ScriptContained = (input : List ℕ) → Contained (record { order = atEnd input .run .order; memory = atEnd input .memory; outside = standing (calls input) .outside })
 
 -- ---- a start whose count is over sixteen gives 3, whatever follows the count, is counted as refused and changes nothing else
 

@@ -46,7 +46,7 @@ finished r = record { printed = withMarked (closed r); run = closed r .run; memo
 
 -- ---- what is written
 
--- what was printed has been written, and is no longer held
+-- what was printed is no longer held. That it was written, no contract can say
 unfoldable pub emptied : Reading → Reading
 emptied r = record { line = r .line; progress = record { printed = []; run = r .progress .run; memory = r .progress .memory } }
 

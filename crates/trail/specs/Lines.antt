@@ -62,7 +62,7 @@ asked m s c = let out = perform (s .order) m c in answered out (replyTo c (out .
 unfoldable pub startedWith : Memory → Run → Order → LineOutcome
 startedWith m s o = let out = perform o m Start in answered out (reply.Verdict (out .verdict)) (cond (eqb (out .verdict) granted) o (s .order)) (s .tally)
 
--- any other line prints bad and does nothing
+-- what a line does by what it was read as: one that is neither a start nor a call prints bad and does nothing
 unfoldable pub doneBy : Memory → Run → Order → Line → LineOutcome
 doneBy m s o Bad = record { done = record { reply = reply.Bad; run = s }; memory = m }
 doneBy m s o Starts = startedWith m s o

@@ -14,7 +14,7 @@ use Rattle.script.specs.Print.{decimal, lineFeed}
 unfoldable pub markedText : List ℕ
 markedText = 109 ∷ 97 ∷ 114 ∷ 107 ∷ 101 ∷ 100 ∷ []
 
--- those of the first k numbers that pass, rising, a space before each
+-- those x below k for which p holds, rising, a space before each
 unfoldable pub listed : (ℕ → Bool) → ℕ → List ℕ
 listed p zero = []
 listed p (suc k) = listed p k ++ cond (p k) (space ∷ decimal k) []

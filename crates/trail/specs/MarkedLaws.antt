@@ -26,6 +26,12 @@ unfolding listed
 listed-same p n zero h = ap (listed p) (add-zero n)
 listed-same p n (suc k) h = ap (listed p) (add-suc n k) ∙ rw (h (n + k) (omega arith) (omega arith)) (append-nil (listed p (n + k)) ∙ listed-same p n k (λ j a b. h j a (omega arith)))
 
+-- numbers that pass alike are listed alike
+pub listed-alike : (p q : ℕ → Bool) (k : ℕ) → ((x : ℕ) → x < k → p x ≡ q x) → listed p k ≡ listed q k
+unfolding listed
+listed-alike p q zero h = refl
+listed-alike p q (suc k) h = rw (h k (omega arith), listed-alike p q k (λ x l. h x (omega arith)))
+
 pub listed-more : (p : ℕ → Bool) (n : ℕ) → p n ≡ true → listed p (n + 1) ≡ listed p n ++ 32 ∷ decimal n
 unfolding listed
 listed-more p n e = rw (add-one, e)

@@ -34,8 +34,9 @@ use Rattle.containment.specs.Lists.{Item, asks, Standing, Role, starting, marki
 use Rattle.containment.specs.Claims.{Contained}
 use Rattle.containment.specs.Proved.{containment, spread-granted}
 use Rattle.trail.specs.Lines.{answered, asked, startedWith, doneBy, lineDone}
-use Rattle.trail.specs.Marked.{isMarked}
-use Rattle.trail.specs.Script.{Progress, lines, zeros, nothingRead, afterLine, afterLines, atEnd}
+use Rattle.trail.specs.Marked.{isMarked, markedLine}
+use Rattle.trail.specs.MarkedLaws.{listed-alike}
+use Rattle.trail.specs.Script.{Progress, lines, zeros, nothingRead, afterLine, afterLines, withMarked, atEnd, output}
 use Rattle.trail.specs.Feeding.{nothingFed}
 use Rattle.trail.specs.FeedingLaws.{written-is, whole, closed-whole}
 use Rattle.trail.specs.Claims.{joined, InPieces, EndsAlike, ListsMarked, callsBy, callsOf, calls, unstarted, standing, Begun, RunsLists, ScriptContained, OverSixteen}
@@ -208,7 +209,8 @@ unstarted-contained =
 
 pub script-contained : ScriptContained
 script-contained input =
-    ⊎-elim (λ h. rw h unstarted-contained) (λ b. rw (b .leaves) (containment (b .order) _ (b .items) (b .reached))) (ends input .1)
+    let e = ends input in
+    rw (e .0 .0, e .0 .1) (⊎-elim (λ h. rw h unstarted-contained) (λ b. rw (b .leaves) (containment (b .order) _ (b .items) (b .reached))) (e .1))
 
 -- ---- the lengths are right; and the bytes are sound and the order passes, once a start was granted
 
@@ -250,10 +252,14 @@ zeros-report x =
     let u : sound noOrder (zeros .bytes) ≡ false = not-so _ (λ h. zeros-unsound h) in
     rw (zeros-fit, u) (no-word (x / 64) (x % 64) ∙ sym (zeros-unmarked x))
 
-pub lists-marked : ListsMarked
-lists-marked input x h =
+end-report : (input : List ℕ) (x : ℕ) → x < numbers → isMarked (report (atEnd input .run .order) (atEnd input .memory)) x ≡ marked (atEnd input .memory) x
+end-report input x h =
     let e = ends input in
     rw (e .0 .0, e .0 .1) (⊎-elim (λ u. rw u (zeros-report x)) (λ b. fitted-report (begun-fitted (calls input) b) x h) (e .1))
+
+pub lists-marked : ListsMarked
+unfolding output withMarked markedLine
+lists-marked input = rw (listed-alike _ (marked (atEnd input .memory)) numbers (end-report input))
 
 -- ---- a count over sixteen
 

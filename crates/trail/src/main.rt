@@ -81,7 +81,7 @@ fn read_piece(
 }
 
 // A proved loop has to end, and nothing says that the input does. So the loop counts its turns down, from a number that no run uses
-// up.
+// up; past it the script would end as at the end of its input.
 fn read_all(
     input: &mut [u8],
     line: &mut [u8],
