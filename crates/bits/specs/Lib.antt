@@ -4,3 +4,4 @@ pub mod BitLaws
 pub mod AllLaws
 pub mod OnesLaws
 pub mod LoopLaws
+pub mod WordsLaws

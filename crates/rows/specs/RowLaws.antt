@@ -19,7 +19,16 @@ use Rattle.bits.specs.BitLaws.{bit-and, bit-or, bit-pow, bit-not, bit-zero}
 use Rattle.bits.specs.All.{anyB, upTo}
 use Rattle.bits.specs.AllLaws.{either, both-ways, and-l, and-r, and-i, and-true, or-false, any-i, any-at}
 use Rattle.bits.specs.LoopLaws.{up-keeps}
+use Rattle.bits.specs.WordsLaws.{getD-zeros}
+use Rattle.rows.specs.Size.{Size, small, large, numbersOf}
 use Rattle.rows.specs.Rows.{place, cell, addCell, cutCell, clearRow, clearColumn, clearThing}
+
+-- ---- sizes
+
+-- there is a number
+pub some-number : (size : Size) → 0 < numbersOf size
+some-number small = omega arith
+some-number large = omega arith
 
 -- ---- a store
 
@@ -58,10 +67,16 @@ cell-set n ws p v x y h = cell-change n (λ w. v) ws p x y (inl h)
 
 -- ---- no two columns of rows of n words stand at one place
 
-same-place : (n : ℕ) {x q x′ q′ : ℕ} → q < n → q′ < n → n * x′ + q′ ≡ n * x + q → (x′ ≡ x) × (q′ ≡ q)
+pub same-place : (n : ℕ) {x q x′ q′ : ℕ} → q < n → q′ < n → n * x′ + q′ ≡ n * x + q → (x′ ≡ x) × (q′ ≡ q)
 same-place n {x} {q} {x′} {q′} h h′ e =
     let p : x′ * n + q′ ≡ x * n + q = omega arith in
     (sym (digits-div x′ h′) ∙ ap (λ (k : ℕ). k / n) p ∙ digits-div x h, sym (digits-mod x′ h′) ∙ ap (λ (k : ℕ). k % n) p ∙ digits-mod x h)
+
+-- of t tables of r rows each, a column of a row has its place
+pub place-below : (n r t j x y : ℕ) → j < t → x < r → y < 64 * n → place n (r * j + x) y < n * (r * t)
+place-below n r t j x y lj lx ly =
+    let row : suc (r * j + x) ≤ r * t = omega (arith, mul-le-mul-left r lj) in
+    omega (arith, mul-le-mul-left n row)
 
 same-cell : (n x y x′ y′ : ℕ) → y < 64 * n → y′ < 64 * n → (eqb (place n x′ y′) (place n x y) && eqb (y′ % 64) (y % 64)) ≡ (eqb x′ x && eqb y′ y)
 same-cell n x y x′ y′ h h′ = both-ways _ _ there back
@@ -223,11 +238,6 @@ length-clear n r t k ws = length-column n (r * t) k _ ∙ up-length _ t (λ i v.
 pub cell-past : (n : ℕ) (ws : List ℕ) (x y : ℕ) → length ws ≤ place n x y → cell n ws x y ≡ false
 unfolding cell
 cell-past n ws x y h = ap (λ (w : ℕ). bit w (y % 64)) (List·getD-eq-default ws 0 h) ∙ bit-zero (y % 64)
-
-getD-zeros : (m i : ℕ) → _≡_ {A = ℕ} (getD (replicate m 0) i 0) 0
-getD-zeros zero i = refl
-getD-zeros (suc m) zero = refl
-getD-zeros (suc m) (suc i) = getD-zeros m i
 
 pub cell-zeros : (n m x y : ℕ) → cell n (replicate m 0) x y ≡ false
 unfolding cell

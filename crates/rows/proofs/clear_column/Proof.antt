@@ -3,12 +3,13 @@ use Prim.Native.Nat.{_≤_, _-_}
 use native.Mathlib.Omega.{arith}
 use lib.ListN.{length}
 use Rattle.bits.specs.AllLaws.{up-none, up-more}
+use Rattle.rows.specs.Size.{rowSize}
 use Rattle.rows.specs.Rows.{clearColumn}
 use Rattle.rows.proofs.clear_column.Statement.{statement}
 use Rattle.rows.proofs.clear_column.Tie as tie
 
 abbrev Inv-loop : tie.InvT-loop
-Inv-loop words₀ rows col row₀ words row = (row ≤ rows) × (length words ≡ length words₀) × (words ≡ clearColumn 2 row col words₀)
+Inv-loop words₀ rows col row₀ words row = (row ≤ rows) × (length words ≡ length words₀) × (words ≡ clearColumn rowSize row col words₀)
 
 abbrev μ-loop : tie.MeasureT-loop
 μ-loop words₀ rows col row₀ words row = rows - row

@@ -4,15 +4,16 @@ use native.Mathlib.Omega.{arith}
 use lib.ListN.{length}
 use Rattle.bits.specs.All.{upTo}
 use Rattle.bits.specs.AllLaws.{up-none, up-more}
+use Rattle.rows.specs.Size.{rowSize, numbers, tables}
 use Rattle.rows.specs.Rows.{clearRow, clearThing}
 use Rattle.rows.proofs.clear_thing.Statement.{statement}
 use Rattle.rows.proofs.clear_thing.Tie as tie
 
 abbrev Inv-loop : tie.InvT-loop
-Inv-loop words₀ k i₀ words i = (i ≤ 3) × (length words ≡ length words₀) × (words ≡ upTo (λ j v. clearRow 2 (128 * j + k) v) i words₀)
+Inv-loop words₀ k i₀ words i = (i ≤ tables) × (length words ≡ length words₀) × (words ≡ upTo (λ j v. clearRow rowSize (numbers * j + k) v) i words₀)
 
 abbrev μ-loop : tie.MeasureT-loop
-μ-loop words₀ k i₀ words i = 3 - i
+μ-loop words₀ k i₀ words i = tables - i
 
 loop-holds : tie.Need-loop-holds Inv-loop μ-loop
 loop-holds c = (omega arith, refl, sym (up-none _ _))
@@ -30,7 +31,7 @@ returns : tie.Need-returns Inv-loop μ-loop
 unfolding clearThing
 returns c =
     let s = c .before .before .before .before .before .loop in
-    let e : s .i ≡ 3 = omega arith in
+    let e : s .i ≡ tables = omega arith in
     let f = rw e at (s .inv .2) in
     c .before .before .clear-column .ensures ∙ rw f
 
