@@ -8,14 +8,15 @@ use Prim.Native.Nat.{ℕ, _+_, _-_, _*_, _%_, _≤_, _<_}
 use native.Mathlib.Nat.{not-le-of-lt}
 use native.Mathlib.Omega.{arith}
 use lib.Dec.{eqb, ltb}
-use lib.ListN.{getD, length}
+use lib.ListN.{getD}
 use mir.Syntax.{w8}
 use mir.Val.{Fits}
 use borrow.Author.Tests.{eqb-true, ltb-true, ltb-false, lt-ltb}
 use Rattle.bits.specs.All.{allB}
 use Rattle.bits.specs.AllLaws.{all-at, all-i, all-none, all-step, and-l, and-i, both-ways, either, not-so}
+use Rattle.rows.specs.Size.{numbers}
 use Rattle.levels.specs.declared.Order.{Order}
-use Rattle.records.specs.Records.{numbers, recordSize, kind, soundRecord}
+use Rattle.records.specs.Records.{BytesLent, kind, soundRecord}
 use Rattle.records.specs.WordLaws.{word, wordFits, otherFits, otherBits, notTwo, ifEven, low, raised, below, few-fit, few-sound, word-record, low-fits}
 use Rattle.records.specs.SeenLaws.{seenFits, seenLow, Sees, unfit-passes}
 use Rattle.records.specs.declared.Seen.{Seen}
@@ -140,11 +141,11 @@ gathered-free bs x n s g u =
 
 -- ---- all records
 
--- the levels of all records are below the count, where they are below 128
+-- the levels of all records are below the count, where they are below 0x80
 unfoldable pub levelsFit : ℕ → List ℕ → Bool
 levelsFit count bs = allB numbers (λ x. below (raised count (word bs x)))
 
-module _ (o : Order) (bs : List ℕ) (long : length bs ≡ recordSize * numbers) (byte : (i : ℕ) → Fits w8 (getD bs i 0)) (some : 0 < o .count) (most : o .count < 128) where
+module _ (o : Order) (bs : List ℕ) (long : BytesLent bs) (byte : (i : ℕ) → Fits w8 (getD bs i 0)) (some : 0 < o .count) (most : o .count < 0x80) where
   all-records : (allB numbers (λ x. wordFits bs x) && levelsFit (o .count) bs) ≡ allSound o bs numbers
   unfolding levelsFit
   all-records =

@@ -8,15 +8,16 @@ use Prim.Native.Nat.{ℕ, zero, suc, _+_, _-_, _*_, _/_, _%_, _<_, _≤_}
 use native.Mathlib.Nat.{lt-of-not-le, add-mul-mod-self-left, mod-eq-of-lt}
 use native.Mathlib.Omega.{arith}
 use lib.Dec.{ltb, eqb}
-use lib.ListN.{getD, length}
+use lib.ListN.{getD}
 use mir.Syntax.{w8}
 use mir.Val.{Fits}
 use borrow.Author.Tests.{eqb-true, eqb-false, eq-eqb, ne-eqb, ltb-true, lt-ltb, ltb-false, le-ltb, not-true}
 use Rattle.bits.specs.All.{allB}
 use Rattle.bits.specs.AllLaws.{and-i, and-true, and-false, both-ways, either}
 use Rattle.bits.specs.BitLaws.{digit}
+use Rattle.rows.specs.Size.{present, numbers}
 use Rattle.levels.specs.declared.Order.{Order}
-use Rattle.records.specs.Records.{numbers, recordSize, rootSign, field, kind, level, readLevel, driver, container, marks, spare, isTask, isObject, freeRecord, taskRecord, objectRecord, soundRecord}
+use Rattle.records.specs.Records.{recordSize, BytesLent, rootSign, field, kind, level, readLevel, driver, container, marks, firstSpare, lastSpare, isTask, isObject, isRoot, inAnother, freeRecord, taskRecord, objectRecordOf, soundRecordOf, soundRecord}
 use Rattle.records.specs.RecordLaws.{one-of-two, two-of, sound-task, sound-object, sound-else, field-past}
 
 -- four bytes as one number, the first lowest
@@ -35,19 +36,19 @@ word bs x = half bs x 0 + half bs x 4 * 0x1_0000_0000
 unfoldable pub containerFits : List ℕ → ℕ → ℕ → Bool
 containerFits bs x c = eqb c rootSign || (isObject bs c && not (eqb c x))
 
--- the level and the read level of w, each with 128 less the count added
+-- the level and the read level of w, each with 0x80 less the count added
 abbrev pub raised : ℕ → ℕ → ℕ
 raised count w = w % 0x100_0000 + (0x80 - count) * 0x1_0100
 
--- neither of the two reaches 128
+-- neither of the two reaches 0x80
 unfoldable pub below : ℕ → Bool
 below s = eqb (s / 0x8000 % 2) 0 && eqb (s / 0x80_0000 % 2) 0
 
--- level and driver below 128, read level 0, marks 0 or 1, spare bytes 0
+-- level and driver below 0x80, read level 0, marks 0 or 1, spare bytes 0
 unfoldable pub objectBits : ℕ → Bool
 objectBits w = eqb (w / 0x8000 % 2) 0 && eqb (w / 0x1_0000 % 0x100) 0 && eqb (w / 0x8000_0000 % 2) 0 && eqb (w / 0x200_0000_0000) 0
 
--- kind 0 or 1, level and read level below 128, driver and container 0, marks 0 to 3, spare bytes 0
+-- kind 0 or 1, level and read level below 0x80, driver and container 0, marks 0 to 3, spare bytes 0
 unfoldable pub otherBits : ℕ → Bool
 otherBits w = eqb (w / 2 % 0x80) 0 && eqb (w / 0x8000 % 2) 0 && eqb (w / 0x80_0000 % 2) 0 && eqb (w / 0x100_0000 % 0x1_0000) 0 && eqb (w / 0x400_0000_0000) 0
 
@@ -71,12 +72,12 @@ unfoldable pub placeOf : ℕ → ℕ → ℕ
 placeOf x c = cond (eqb c rootSign) x c
 
 -- the object x may lie in c
-unfoldable pub liesIn : List ℕ → ℕ → ℕ → Bool
-liesIn bs x c = not (eqb c x) && ltb (placeOf x c) numbers && objectKind (kind bs (placeOf x c))
+unfoldable pub mayLieIn : List ℕ → ℕ → ℕ → Bool
+mayLieIn bs x c = not (eqb c x) && ltb (placeOf x c) numbers && objectKind (kind bs (placeOf x c))
 
 -- the record w of the object x passes, and a record w that is no object's
 unfoldable pub objectFits : List ℕ → ℕ → ℕ → Bool
-objectFits bs x w = objectBits w && taskKind (kind bs (w / 0x100_0000 % 0x80)) && liesIn bs x (w / 0x1_0000_0000 % 0x100)
+objectFits bs x w = objectBits w && taskKind (kind bs (w / 0x100_0000 % numbers)) && mayLieIn bs x (w / 0x1_0000_0000 % 0x100)
 
 unfoldable pub otherFits : ℕ → Bool
 otherFits w = otherBits w && notTwo (w / 0x100_0000_0000 * 3) && eqb (ifEven w) 0
@@ -133,7 +134,7 @@ not-two (suc (suc zero)) l = refl
 not-two (suc (suc (suc zero))) l = refl
 not-two (suc (suc (suc (suc m)))) l = absurd (omega (arith, l))
 
--- of a level and a read level below 128, with 128 less n added to each, neither reaches 128 where both are below n
+-- of a level and a read level below 0x80, with 0x80 less n added to each, neither reaches 0x80 where both are below n
 below-is : (k l r n : ℕ) → k < 0x100 → l < 0x80 → r < 0x80 → n < 0x80 → below (k + l * 0x100 + r * 0x1_0000 + (0x80 - n) * 0x1_0100) ≡ (ltb l n && ltb r n)
 unfolding below
 below-is k l r n hk hl hr hn =
@@ -153,23 +154,37 @@ half-below bs x f byte = omega (arith, byte (recordSize * x + f) .fits, byte (re
 
 module _ (bs : List ℕ) (x w : ℕ) where
   pub in-itself : w / 0x1_0000_0000 % 0x100 ≡ x → objectFits bs x w ≡ false
-  unfolding objectFits liesIn
+  unfolding objectFits mayLieIn
   in-itself e = simp (eq-eqb (w / 0x1_0000_0000 % 0x100) x e, and-false)
 
   pub in-no-number : numbers ≤ placeOf x (w / 0x1_0000_0000 % 0x100) → objectFits bs x w ≡ false
-  unfolding objectFits liesIn
+  unfolding objectFits mayLieIn
   in-no-number l = simp (le-ltb (placeOf x (w / 0x1_0000_0000 % 0x100)) numbers l, and-false)
 
   pub in-number : (w / 0x1_0000_0000 % 0x100 ≡ x → ⊥)
       → placeOf x (w / 0x1_0000_0000 % 0x100) < numbers
-      → objectFits bs x w ≡ (objectBits w && taskKind (kind bs (w / 0x100_0000 % 0x80)) && objectKind (kind bs (placeOf x (w / 0x1_0000_0000 % 0x100))))
-  unfolding objectFits liesIn
+      → objectFits bs x w ≡ (objectBits w && taskKind (kind bs (w / 0x100_0000 % numbers)) && objectKind (kind bs (placeOf x (w / 0x1_0000_0000 % 0x100))))
+  unfolding objectFits mayLieIn
   in-number n l = simp (ne-eqb (w / 0x1_0000_0000 % 0x100) x n, lt-ltb (placeOf x (w / 0x1_0000_0000 % 0x100)) numbers l)
+
+-- ---- the spare bytes are tested last
+
+with-spare : (a s i n : Bool) → ((a && s) || ((s && i) && n)) ≡ ((a || (i && n)) && s)
+with-spare true true i n = refl
+with-spare true false i n = refl
+with-spare false true i n = sym (and-true (i && n))
+with-spare false false i n = sym (and-false (i && n))
+
+spare-apart : (p h s m l : Bool) → (((p && (h && s)) && m) && l) ≡ ((p && h) && (m && (s && l)))
+spare-apart true true true m l = refl
+spare-apart true true false m l = sym (and-false m)
+spare-apart true false s m l = refl
+spare-apart false h s m l = refl
 
 -- ---- over bytes, the number says what the fields say
 
-module _ (o : Order) (bs : List ℕ) (x : ℕ) (long : length bs ≡ recordSize * numbers) (byte : (i : ℕ) → Fits w8 (getD bs i 0)) where
-  byte-of : (f : ℕ) → field bs x f < 256
+module _ (o : Order) (bs : List ℕ) (x : ℕ) (long : BytesLent bs) (byte : (i : ℕ) → Fits w8 (getD bs i 0)) where
+  byte-of : (f : ℕ) → field bs x f < 0x100
   unfolding field
   byte-of f = byte _ .fits
 
@@ -195,18 +210,18 @@ module _ (o : Order) (bs : List ℕ) (x : ℕ) (long : length bs ≡ recordSize 
 
   -- the marks, and the spare bytes above them
   rest : ℕ
-  rest = marks bs x + field bs x 6 * 0x100 + field bs x 7 * 0x1_0000
+  rest = marks bs x + firstSpare bs x * 0x100 + lastSpare bs x * 0x1_0000
 
   w-rest : word bs x / 0x100_0000_0000 ≡ rest
   unfolding rest word half
   w-rest = omega (arith, byte-of 0, byte-of 1, byte-of 2, byte-of 3, byte-of 4)
 
   -- a test that no number of more than a byte passes is one of the marks, and of zeros in the spare bytes
-  marks-rest : (p : ℕ → Bool) → ((n : ℕ) → p n ≡ true → n < 0x100) → p rest ≡ (p (marks bs x) && spare bs x)
+  marks-rest : (p : ℕ → Bool) → ((n : ℕ) → p n ≡ true → n < 0x100) → p rest ≡ (p (marks bs x) && (eqb (firstSpare bs x) 0 && eqb (lastSpare bs x) 0))
   unfolding rest
-  marks-rest p small =
+  marks-rest p few =
       both-ways _ _
-      (λ h. let l = small rest h in let e : rest ≡ marks bs x = omega (arith, byte-of 5) in and-i (rw e at h) (simp and-eq-true-iff (omega (arith, eq-eqb))))
+      (λ h. let l = few rest h in let e : rest ≡ marks bs x = omega (arith, byte-of 5) in and-i (rw e at h) (simp and-eq-true-iff (omega (arith, eq-eqb))))
       (λ h. let q = simp and-eq-true-iff at h in let e : rest ≡ marks bs x = omega (arith, eqb-true) in rw e (q .0))
 
   task-is : taskRecord o bs x
@@ -214,10 +229,16 @@ module _ (o : Order) (bs : List ℕ) (x : ℕ) (long : length bs ≡ recordSize 
   unfolding taskRecord isTask
   task-is = rw (marks-rest taskMarks (λ n h. let p = simp (task-marks, and-eq-true-iff) at h in omega (arith, ltb-true))) (simp and-assoc)
 
-  object-is : objectRecord o bs x
+  place-is : (isRoot present bs x || inAnother bs x) ≡ (containerFits bs x (container bs x) && eqb (firstSpare bs x) 0)
+  unfolding containerFits
+  place-is = with-spare (eqb (container bs x) rootSign) (eqb (firstSpare bs x) 0) (isObject bs (container bs x)) (not (eqb (container bs x) x))
+
+  object-is : objectRecordOf present o bs x
       ≡ (eqb (kind bs x) 2 && ltb (level bs x) (o .count) && eqb (readLevel bs x) 0 && isTask bs (driver bs x) && containerFits bs x (container bs x) && objectMarks rest)
-  unfolding objectRecord isObject containerFits
-  object-is = rw (marks-rest objectMarks (λ n h. let p = simp object-marks at h in omega (arith, ltb-true))) (simp and-assoc)
+  unfolding objectRecordOf isObject
+  object-is =
+      rw (place-is, marks-rest objectMarks (λ n h. let p = simp object-marks at h in omega (arith, ltb-true)))
+      (spare-apart (eqb (kind bs x) 2 && ltb (level bs x) (o .count) && eqb (readLevel bs x) 0 && isTask bs (driver bs x)) (containerFits bs x (container bs x)) (eqb (firstSpare bs x) 0) (objectMarks (marks bs x)) (eqb (lastSpare bs x) 0))
 
   -- all eight bytes are zero
   pub free-word : eqb (word bs x) 0 ≡ freeRecord bs x
@@ -228,7 +249,7 @@ module _ (o : Order) (bs : List ℕ) (x : ℕ) (long : length bs ≡ recordSize 
       (λ h. let p = simp (true-and, and-eq-true-iff) at h in omega (arith, eqb-true, eq-eqb))
 
   pub plain-record : plainSound (o .count) bs x ≡ soundRecord o bs x
-  unfolding plainSound soundRecord
+  unfolding plainSound soundRecordOf
   plain-record = simp (free-word, task-is, object-is, w-kind, w-level, w-read, w-driver, w-container, w-rest)
 
   -- ---- the tests of the levels, and of many fields at once
@@ -237,7 +258,7 @@ module _ (o : Order) (bs : List ℕ) (x : ℕ) (long : length bs ≡ recordSize 
   unfolding word half
   w-low = omega (arith, byte-of 0, byte-of 1, byte-of 2)
 
-  -- of levels below 128, those below the count fit
+  -- of levels below 0x80, those below the count fit
   levels-fit : o .count < 0x80 → level bs x < 0x80 → readLevel bs x < 0x80
       → below (raised (o .count) (word bs x)) ≡ (ltb (level bs x) (o .count) && ltb (readLevel bs x) (o .count))
   levels-fit m l r = simp (w-low, below-is (kind bs x) (level bs x) (readLevel bs x) (o .count) (byte-of 0) l r m)
@@ -245,7 +266,7 @@ module _ (o : Order) (bs : List ℕ) (x : ℕ) (long : length bs ≡ recordSize 
   -- a driver that is a task is one of the numbers
   driver-below : (d : ℕ) → isTask bs d ≡ true → d < numbers
   unfolding isTask
-  driver-below d t = lt-of-not-le (λ (l : numbers ≤ d). omega (arith, eqb-true, field-past bs d 0 long l))
+  driver-below d t = lt-of-not-le (λ (l : numbers ≤ d). omega (arith, eqb-true, field-past present bs d 0 long l))
 
   object-bits : objectBits (word bs x) ≡ (eqb (level bs x / 0x80) 0 && eqb (readLevel bs x) 0 && eqb (driver bs x / 0x80) 0 && eqb (rest / 2) 0)
   unfolding objectBits
@@ -281,7 +302,7 @@ module _ (o : Order) (bs : List ℕ) (x : ℕ) (long : length bs ≡ recordSize 
       (λ t. omega (arith, eqb-true (kind bs x) 1 t))
       (λ t. ⊎-elim
       (λ n. omega (arith, eqb-true (kind bs x) 2 n))
-      (λ n. let e = sym (sound-else o bs x (eqb-false (kind bs x) 1 t) (eqb-false (kind bs x) 2 n)) ∙ h in omega (arith, w-kind, eqb-true (word bs x) 0 (free-word ∙ e)))
+      (λ n. let e = sym (sound-else present o bs x (eqb-false (kind bs x) 1 t) (eqb-false (kind bs x) 2 n)) ∙ h in omega (arith, w-kind, eqb-true (word bs x) 0 (free-word ∙ e)))
       (either (eqb (kind bs x) 2)))
       (either (eqb (kind bs x) 1))
 
@@ -298,11 +319,11 @@ module _ (o : Order) (bs : List ℕ) (x : ℕ) (long : length bs ≡ recordSize 
 
     past : (c : ℕ) → numbers ≤ c → isObject bs c ≡ false
     unfolding isObject
-    past c l = rw (field-past bs c 0 long l)
+    past c l = rw (field-past present bs c 0 long l)
 
-    lies-in : kind bs x ≡ 2 → (c : ℕ) → liesIn bs x c ≡ containerFits bs x c
-    unfolding liesIn containerFits placeOf
-    lies-in e c =
+    may-lie-in : kind bs x ≡ 2 → (c : ℕ) → mayLieIn bs x c ≡ containerFits bs x c
+    unfolding mayLieIn containerFits placeOf
+    may-lie-in e c =
         ⊎-elim
         (λ (t : eqb c rootSign ≡ true). let r = eqb-true c rootSign t in simp (t, ne-eqb c x (omega arith), lt-ltb x numbers mine, e))
         (λ (f : eqb c rootSign ≡ false). ⊎-elim
@@ -342,19 +363,19 @@ module _ (o : Order) (bs : List ℕ) (x : ℕ) (long : length bs ≡ recordSize 
         simp (and-eq-true-iff, levels-fit most (omega (arith, ltb-true)) (omega (arith, ltb-true)), not-two rest (ltb-true rest 4 (p .1 .0)))
         (omega (arith, ltb-true, lt-ltb), ((omega (arith, eqb-true, ltb-true, eq-eqb), p .1 .1), refl))))
 
-    passes-object : kind bs x ≡ 2 → passes ≡ objectRecord o bs x
+    passes-object : kind bs x ≡ 2 → passes ≡ objectRecordOf present o bs x
     unfolding passes wordFits objectFits
     passes-object e =
-        simp (eq-eqb (word bs x % 0x100) 2 (omega (arith, w-kind)), object-bits, w-container, lies-in e, object-is, object-marks)
+        simp (eq-eqb (word bs x % 0x100) 2 (omega (arith, w-kind)), object-bits, w-container, may-lie-in e, object-is, object-marks)
         (both-ways _ _
         (λ h. let p = simp and-eq-true-iff at h in
         let q = simp (levels-fit most (omega (arith, eqb-true)) (omega (arith, eqb-true)), and-eq-true-iff) at (p .0) in
-        let d : word bs x / 0x100_0000 % 0x80 ≡ driver bs x = omega (arith, eqb-true, w-driver) in
+        let d : word bs x / 0x100_0000 % numbers ≡ driver bs x = omega (arith, eqb-true, w-driver) in
         let t = rw (task-kind (driver bs x) (omega (arith, eqb-true))) at (rw d at (p .1 .0 .1)) in
         simp and-eq-true-iff (((omega (arith, eqb-true, ltb-true, eq-eqb, lt-ltb), t), p .1 .1), omega (arith, eqb-true, lt-ltb)))
         (λ h. let p = simp and-eq-true-iff at h in
         let b = driver-below (driver bs x) (p .0 .0 .1) in
-        let d : word bs x / 0x100_0000 % 0x80 ≡ driver bs x = omega (arith, w-driver) in
+        let d : word bs x / 0x100_0000 % numbers ≡ driver bs x = omega (arith, w-driver) in
         simp (and-eq-true-iff, d, task-kind (driver bs x) b, levels-fit most (omega (arith, ltb-true)) (omega (arith, eqb-true)))
         (omega (arith, eqb-true, ltb-true, lt-ltb), (((omega (arith, eqb-true, ltb-true, eq-eqb), p .0 .0 .1), p .0 .1)))))
 
@@ -362,10 +383,10 @@ module _ (o : Order) (bs : List ℕ) (x : ℕ) (long : length bs ≡ recordSize 
     unfolding passes
     word-record =
         ⊎-elim
-        (λ t. let e = eqb-true (kind bs x) 1 t in passes-task e ∙ sym (sound-task o bs x e))
+        (λ t. let e = eqb-true (kind bs x) 1 t in passes-task e ∙ sym (sound-task present o bs x e))
         (λ t. ⊎-elim
-        (λ n. let e = eqb-true (kind bs x) 2 n in passes-object e ∙ sym (sound-object o bs x e))
-        (λ n. let f = eqb-false (kind bs x) 1 t in let g = eqb-false (kind bs x) 2 n in passes-free (omega (arith, few x mine)) ∙ sym (sound-else o bs x f g))
+        (λ n. let e = eqb-true (kind bs x) 2 n in passes-object e ∙ sym (sound-object present o bs x e))
+        (λ n. let f = eqb-false (kind bs x) 1 t in let g = eqb-false (kind bs x) 2 n in passes-free (omega (arith, few x mine)) ∙ sym (sound-else present o bs x f g))
         (either (eqb (kind bs x) 2)))
         (either (eqb (kind bs x) 1))
 

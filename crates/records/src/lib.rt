@@ -4,9 +4,9 @@ ghost use mathlib.Core.Bool.{true, false};
 ghost use Prim.Native.Nat.{_+_, _*_, _%_, _≤_, _<_};
 ghost use lib.ListN.{length, replicate};
 ghost use Rattle.records.specs.Records as model;
+ghost use Rattle.rows.specs.Size.{numbers};
 ghost use Rattle.records.specs.Records.{
-  numbers,
-  recordSize,
+  BytesLent,
   setField,
   setRecord,
   kind,
@@ -32,11 +32,14 @@ ghost use Rattle.records.specs.WordLaws.{
 ghost use Rattle.records.specs.SeenLaws.{seenFits, Sees};
 ghost use Rattle.records.specs.GroupLaws.{groupSize, groupFree, groupsFree, allSound, FreeUntil, Gathered, levelsFit};
 use levels::Order;
+use rows::NUMBERS;
 
-// How many numbers there are, and the bytes of a record and of them all.
-pub const NUMBERS: usize = 128;
+// The bytes of a record; how many records there are, one for each number; and the bytes of them all.
+pub const RECORD_SIZE: usize = 8;
 
-const RECORD_SIZE: usize = 8;
+pub const RECORDS: usize = NUMBERS as usize;
+
+pub const BYTES: usize = RECORD_SIZE * RECORDS;
 
 // The records are tested in groups, so that a run of free ones costs few tests.
 const GROUP_SIZE: usize = 8;
@@ -44,9 +47,7 @@ const GROUP_SIZE: usize = 8;
 const FOUR_GROUPS: usize = 32;
 
 // An order of fewer levels than this is tested by sums.
-const SUMMED: u16 = 128;
-
-pub const BYTES: usize = 1024;
+const SUMMED: u16 = 0x80;
 
 // Where each field stands in its record. The two spare bytes are zero.
 pub const KIND: u16 = 0;
@@ -104,7 +105,7 @@ pub fn set_record(
     container: u8,
     marks: u8,
 )
-    ensures { λ _. ⌜ now (bytes .exit) ≡ setRecord (now (bytes .entry)) x kind level «read_level» driver container marks ⌝ }
+    ensures { λ _. ⌜ now (bytes .exit) ≡ setRecord (now (bytes .entry)) x kind level «read_level» driver container marks 0 ⌝ }
 {
     set_field(bytes, x, KIND, kind);
     set_field(bytes, x, LEVEL, level);
@@ -149,7 +150,7 @@ fn join(a: u8, b: u8, c: u8, d: u8) -> usize
 
 // The half of the record of x that starts at f.
 fn half(bytes: &[u8], x: usize, f: usize) -> usize
-    requires { ⌜ (length (now bytes) ≡ recordSize * numbers) × (x < numbers) × (f ≤ 4) ⌝ }
+    requires { ⌜ BytesLent (now bytes) × (x < numbers) × (f ≤ 4) ⌝ }
     ensures { λ r. ⌜ r ≡ half (now (bytes .entry)) x f ⌝ }
 {
     let i = RECORD_SIZE * x + f;
@@ -158,14 +159,14 @@ fn half(bytes: &[u8], x: usize, f: usize) -> usize
 
 // The whole record of x as one number.
 fn word(bytes: &[u8], x: usize) -> usize
-    requires { ⌜ (length (now bytes) ≡ recordSize * numbers) × (x < numbers) ⌝ }
+    requires { ⌜ BytesLent (now bytes) × (x < numbers) ⌝ }
     ensures { λ r. ⌜ r ≡ word (now (bytes .entry)) x ⌝ }
 {
     half(bytes, x, 0) + half(bytes, x, 4) * 0x1_0000_0000
 }
 
 fn kind_at(bytes: &[u8], x: usize) -> u8
-    requires { ⌜ (length (now bytes) ≡ recordSize * numbers) × (x < numbers) ⌝ }
+    requires { ⌜ BytesLent (now bytes) × (x < numbers) ⌝ }
     ensures { λ r. ⌜ r ≡ kind (now (bytes .entry)) x ⌝ }
 {
     let i = RECORD_SIZE * x;
@@ -188,7 +189,7 @@ struct Seen {
     unfit: bool,
 }
 
-// What an object's record shows by itself: level and driver below 128, read level 0, marks 0 or 1, spare bytes 0. The compiler
+// What an object's record shows by itself: level and driver below 0x80, read level 0, marks 0 or 1, spare bytes 0. The compiler
 // joins these tests into one mask and one comparison.
 fn object_bits(w: usize) -> bool
     ensures { λ r. ⌜ r ≡ objectBits w ⌝ }
@@ -199,7 +200,7 @@ fn object_bits(w: usize) -> bool
         & (w / 0x200_0000_0000 == 0)
 }
 
-// And another's: kind 0 or 1, level and read level below 128, driver and container 0, marks 0 to 3, spare bytes 0.
+// And another's: kind 0 or 1, level and read level below 0x80, driver and container 0, marks 0 to 3, spare bytes 0.
 fn other_bits(w: usize) -> bool
     ensures { λ r. ⌜ r ≡ otherBits w ⌝ }
 {
@@ -245,7 +246,7 @@ fn unfit() -> Seen
 
 // With the record w of the object x.
 fn with_object(bytes: &[u8], x: usize, w: usize, seen: Seen) -> Seen
-    requires { ⌜ (length (now bytes) ≡ recordSize * numbers) × (x < numbers) ⌝ }
+    requires { ⌜ BytesLent (now bytes) × (x < numbers) ⌝ }
     ensures { λ r. ⌜ Sees (objectFits (now (bytes .entry)) x w) w seen r ⌝ }
 {
     let container = w / 0x1_0000_0000 % 0x100;
@@ -253,11 +254,11 @@ fn with_object(bytes: &[u8], x: usize, w: usize, seen: Seen) -> Seen
         return unfit();
     }
     let place = place_of(x, container);
-    if place >= NUMBERS {
+    if place >= RECORDS {
         return unfit();
     }
     let objects = seen.objects | w;
-    let driver = kind_at(bytes, w / 0x100_0000 % 0x80);
+    let driver = kind_at(bytes, w / 0x100_0000 % RECORDS);
     let holder = kind_at(bytes, place);
     Seen {
         objects,
@@ -290,7 +291,7 @@ fn with_other(w: usize, seen: Seen) -> Seen
 
 // With the record of x, which is an object's where its kind is 2.
 fn with_record(bytes: &[u8], x: usize, seen: Seen) -> Seen
-    requires { ⌜ (length (now bytes) ≡ recordSize * numbers) × (x < numbers) ⌝ }
+    requires { ⌜ BytesLent (now bytes) × (x < numbers) ⌝ }
     ensures { λ r. ⌜ Sees (wordFits (now (bytes .entry)) x) (word (now (bytes .entry)) x) seen r ⌝ }
 {
     let w = word(bytes, x);
@@ -303,7 +304,7 @@ fn with_record(bytes: &[u8], x: usize, seen: Seen) -> Seen
 
 // With the group from x on. Nothing more is looked at after an unfit object.
 fn with_group(bytes: &[u8], x: usize, seen: Seen) -> Seen
-    requires { ⌜ (length (now bytes) ≡ recordSize * numbers) × (x + groupSize ≤ numbers) × Gathered (now bytes) x seen ⌝ }
+    requires { ⌜ BytesLent (now bytes) × (x + groupSize ≤ numbers) × Gathered (now bytes) x seen ⌝ }
     ensures { λ r. ⌜ (r .unfit ≡ false → Gathered (now (bytes .entry)) (x + groupSize) r) × (r .unfit ≡ true → Gathered (now (bytes .entry)) numbers r) ⌝ }
 {
     let mut next = seen;
@@ -318,7 +319,7 @@ fn with_group(bytes: &[u8], x: usize, seen: Seen) -> Seen
     next
 }
 
-// What is gathered is what sound records show, but that levels are only known to be below 128.
+// What is gathered is what sound records show, but that levels are only known to be below 0x80.
 fn seen_fits(seen: Seen) -> bool
     ensures { λ r. ⌜ r ≡ seenFits seen ⌝ }
 {
@@ -348,7 +349,7 @@ fn core_sound(bytes: &[u8], order: Order) -> bool
 
 // The records of the group from x on are free.
 fn group_free(bytes: &[u8], x: usize) -> bool
-    requires { ⌜ (length (now bytes) ≡ recordSize * numbers) × (x + groupSize ≤ numbers) ⌝ }
+    requires { ⌜ BytesLent (now bytes) × (x + groupSize ≤ numbers) ⌝ }
     ensures { λ r. ⌜ r ≡ groupFree (now (bytes .entry)) x ⌝ }
 {
     let mut any: usize = 0;
@@ -360,16 +361,16 @@ fn group_free(bytes: &[u8], x: usize) -> bool
     any == 0
 }
 
-// The levels and read levels of all records are below the count, if they are below 128: with 128 less the count added, none
-// reaches 128, which is bit 15 of the number for the level and bit 23 for the read level.
+// The levels and read levels of all records are below the count, if they are below 0x80: with 0x80 less the count added, none
+// reaches 0x80, which is bit 15 of the number for the level and bit 23 for the read level.
 fn levels_fit(bytes: &[u8], count: usize) -> bool
-    requires { ⌜ (length (now bytes) ≡ recordSize * numbers) × (count < 128) ⌝ }
+    requires { ⌜ BytesLent (now bytes) × (count < 0x80) ⌝ }
     ensures { λ r. ⌜ r ≡ levelsFit count (now (bytes .entry)) ⌝ }
 {
     let rise = (0x80 - count) * 0x1_0100;
     let mut any: usize = 0;
     let mut x: usize = 0;
-    while x < NUMBERS {
+    while x < RECORDS {
         any = any | (word(bytes, x) % 0x100_0000 + rise);
         x += 1;
     }
@@ -378,7 +379,7 @@ fn levels_fit(bytes: &[u8], count: usize) -> bool
 
 // The four groups from x on are free: one test for 32 records.
 fn groups_free(bytes: &[u8], x: usize) -> bool
-    requires { ⌜ (length (now bytes) ≡ recordSize * numbers) × (x + 32 ≤ numbers) ⌝ }
+    requires { ⌜ BytesLent (now bytes) × (x + 32 ≤ numbers) ⌝ }
     ensures { λ r. ⌜ r ≡ groupsFree (now (bytes .entry)) x ⌝ }
 {
     group_free(bytes, x)
@@ -389,11 +390,11 @@ fn groups_free(bytes: &[u8], x: usize) -> bool
 
 // A number up to which the records are free, so that few records in use cost few tests.
 fn free_until(bytes: &[u8], from: usize) -> usize
-    requires { ⌜ (length (now bytes) ≡ recordSize * numbers) × (from ≤ numbers) × (from % groupSize ≡ 0) ⌝ }
+    requires { ⌜ BytesLent (now bytes) × (from ≤ numbers) × (from % groupSize ≡ 0) ⌝ }
     ensures { λ r. ⌜ FreeUntil (now (bytes .entry)) from r ⌝ }
 {
     let mut x = from;
-    while x + FOUR_GROUPS <= NUMBERS {
+    while x + FOUR_GROUPS <= RECORDS {
         if !groups_free(bytes, x) {
             return x;
         }
@@ -404,7 +405,7 @@ fn free_until(bytes: &[u8], from: usize) -> usize
 
 // What all records show. Where a group begins with a free record, free groups are passed over.
 fn gather(bytes: &[u8]) -> Seen
-    requires { ⌜ length (now bytes) ≡ recordSize * numbers ⌝ }
+    requires { ⌜ BytesLent (now bytes) ⌝ }
     ensures { λ r. ⌜ Gathered (now (bytes .entry)) numbers r ⌝ }
 {
     let mut seen = Seen {
@@ -417,7 +418,7 @@ fn gather(bytes: &[u8]) -> Seen
         unfit: false,
     };
     let mut x: usize = 0;
-    while x < NUMBERS {
+    while x < RECORDS {
         if word(bytes, x) == 0 {
             if group_free(bytes, x) {
                 x = free_until(bytes, x + GROUP_SIZE);
@@ -435,7 +436,7 @@ fn gather(bytes: &[u8]) -> Seen
 
 // The records are sound. Levels whose `or` is below the count are so themselves; else each is tested.
 fn records_sound(bytes: &[u8], order: Order) -> bool
-    requires { ⌜ (length (now bytes) ≡ recordSize * numbers) × (0 < order .count) × (order .count < 128) ⌝ }
+    requires { ⌜ BytesLent (now bytes) × (0 < order .count) × (order .count < 0x80) ⌝ }
     ensures { λ r. ⌜ r ≡ allSound order (now (bytes .entry)) numbers ⌝ }
 {
     let seen = gather(bytes);
@@ -455,7 +456,7 @@ fn records_sound(bytes: &[u8], order: Order) -> bool
 
 // An object's container is the root sign or another object.
 fn container_sound(bytes: &[u8], x: usize, container: usize) -> bool
-    requires { ⌜ length (now bytes) ≡ recordSize * numbers ⌝ }
+    requires { ⌜ BytesLent (now bytes) ⌝ }
     ensures { λ r. ⌜ r ≡ containerFits (now (bytes .entry)) x container ⌝ }
 {
     if container == ROOT_SIGN as usize {
@@ -464,7 +465,7 @@ fn container_sound(bytes: &[u8], x: usize, container: usize) -> bool
     if container == x {
         return false;
     }
-    if container < NUMBERS {
+    if container < RECORDS {
         kind_at(bytes, container) == OBJECT
     } else {
         false
@@ -473,7 +474,7 @@ fn container_sound(bytes: &[u8], x: usize, container: usize) -> bool
 
 // The record of x is sound, field by field. The spare bytes stand above the marks.
 fn plain_record(bytes: &[u8], order: Order, x: usize) -> bool
-    requires { ⌜ (length (now bytes) ≡ recordSize * numbers) × (x < numbers) ⌝ }
+    requires { ⌜ BytesLent (now bytes) × (x < numbers) ⌝ }
     ensures { λ r. ⌜ r ≡ soundRecord order (now (bytes .entry)) x ⌝ }
 {
     let w = word(bytes, x);
@@ -499,11 +500,11 @@ fn plain_record(bytes: &[u8], order: Order, x: usize) -> bool
 }
 
 fn plain_records(bytes: &[u8], order: Order) -> bool
-    requires { ⌜ length (now bytes) ≡ recordSize * numbers ⌝ }
+    requires { ⌜ BytesLent (now bytes) ⌝ }
     ensures { λ r. ⌜ r ≡ allSound order (now (bytes .entry)) numbers ⌝ }
 {
     let mut x: usize = 0;
-    while x < NUMBERS {
+    while x < RECORDS {
         if !plain_record(bytes, order, x) {
             return false;
         }

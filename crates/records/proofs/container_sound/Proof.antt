@@ -1,6 +1,7 @@
 use mathlib.Core.Bool.{and-false, and-true}
 use borrow.Author.Needs.{needs}
 use borrow.Author.Tests.{eq-eqb, ne-eqb}
+use Rattle.rows.specs.Size.{present}
 use Rattle.records.specs.Records.{isObject}
 use Rattle.records.specs.RecordLaws.{field-past}
 use Rattle.records.specs.WordLaws.{containerFits}
@@ -29,7 +30,7 @@ returns-4 : tie.Need-returns-4
 unfolding containerFits isObject
 returns-4 c =
     let s = c .before .before in
-    simp (ne-eqb _ _ (s .if1 .left), field-past (s .before .before .args .bytes .now) _ 0 (s .before .before .pre) (c .if3 .left))
+    simp (ne-eqb _ _ (s .if1 .left), field-past present (s .before .before .args .bytes .now) _ 0 (s .before .before .pre) (c .if3 .left))
 
 pub container-sound-spec : {M : Type 1} → statement M
 container-sound-spec = tie.close (tie.spec cast-if1 returns returns-2 kind-at-requires returns-3 returns-4)

@@ -5,7 +5,7 @@ use Prim.Native.Nat.{_-_}
 use native.Mathlib.Omega.{arith}
 use borrow.Author.Needs.{needs}
 use borrow.Author.Tests.{not-false}
-use Rattle.records.specs.Records.{numbers}
+use Rattle.rows.specs.Size.{numbers}
 use Rattle.records.specs.GroupLaws.{FreeUntil, free-none, free-more}
 use Rattle.records.proofs.free_until.Statement.{statement}
 use Rattle.records.proofs.free_until.Tie as tie

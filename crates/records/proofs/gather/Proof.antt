@@ -4,7 +4,7 @@ use mathlib.Core.Path.{_≡_, refl, sym, _∙_}
 use Prim.Native.Nat.{_≤_, _-_, _%_}
 use native.Mathlib.Omega.{arith}
 use borrow.Author.Needs.{needs}
-use Rattle.records.specs.Records.{numbers}
+use Rattle.rows.specs.Size.{numbers}
 use Rattle.records.specs.WordLaws.{objectBits, otherBits, notTwo}
 use Rattle.records.specs.SeenLaws.{seenFits}
 use Rattle.records.specs.GroupLaws.{groupSize, Gathered, gathered-none, gathered-free, free-group}

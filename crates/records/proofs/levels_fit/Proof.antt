@@ -7,7 +7,7 @@ use borrow.Author.Needs.{needs}
 use Rattle.bits.specs.All.{allB}
 use Rattle.bits.specs.AllLaws.{all-none, all-step}
 use Rattle.records.specs.WordLaws.{word, raised, below}
-use Rattle.records.specs.Records.{numbers}
+use Rattle.rows.specs.Size.{numbers}
 use Rattle.records.specs.SeenLaws.{or-below}
 use Rattle.records.specs.GroupLaws.{levelsFit}
 use Rattle.records.proofs.levels_fit.Statement.{statement}

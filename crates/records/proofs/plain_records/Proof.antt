@@ -7,7 +7,7 @@ use native.Mathlib.Omega.{arith}
 use borrow.Author.Needs.{needs}
 use borrow.Author.Tests.{not-true, not-false}
 use Rattle.bits.specs.AllLaws.{all-none, all-more, all-fails}
-use Rattle.records.specs.Records.{numbers}
+use Rattle.rows.specs.Size.{numbers}
 use Rattle.records.specs.GroupLaws.{allSound}
 use Rattle.records.proofs.plain_records.Statement.{statement}
 use Rattle.records.proofs.plain_records.Tie as tie
