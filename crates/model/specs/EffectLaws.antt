@@ -4,8 +4,7 @@ use mathlib.Core.Path.{_≡_, refl, sym, ap, ap₂, _∙_}
 use mathlib.Core.Logic.{_⊎_, inl, inr, ⊎-elim}
 use mathlib.Core.Bool.{Bool, true, false, not, cond, _&&_, _||_, and-eq-true-iff}
 use mathlib.Core.List.{List, [], _∷_}
-use Prim.Native.Nat.{ℕ, zero, suc, _+_, _*_, _<_}
-use native.Mathlib.Nat.{zero-add}
+use Prim.Native.Nat.{ℕ, zero, suc, _<_}
 use native.Mathlib.Omega.{arith}
 use lib.Dec.{eqb}
 use lib.ListN.{length, getD, getD-replicate}
@@ -13,57 +12,58 @@ use borrow.Author.Tests.{eqb-true, eqb-false, eq-eqb, ne-eqb}
 use Rattle.bits.specs.All.{one}
 use Rattle.bits.specs.AllLaws.{either, and-i, and-l, and-r, or-false, or-true, both-ways}
 use Rattle.rows.specs.Rows.{cell, addCell}
-use Rattle.rows.specs.RowLaws.{cell-add, cell-clear, length-add, length-clear}
-use Rattle.records.specs.Records.{numbers, recordSize, field, setField, setRecord, marks, isTask, isObject}
+use Rattle.rows.specs.RowLaws.{same-place, place-below, cell-add, cell-clear, length-add, length-clear}
+use Rattle.rows.specs.Size.{Size, rowSizeOf, numbersOf, tables, lentWords}
+use Rattle.records.specs.Records.{field, setField, setRecord, marks, isTask, isObject, containerByte, spareByte, lentBytes}
 use Rattle.records.specs.RecordLaws.{field-same, field-else, length-field, Fields, length-record, record-else, record-same}
-use Rattle.model.specs.State.{Memory, rowSize, tables, lengthsFit, inUse, task, object, levelOf, readLevelOf, driverOf, containerOf, marked, hasFlow, hasRead, hasWrite}
+use Rattle.model.specs.State.{MemoryOf, rowOf, lengthsFit, inUse, task, object, levelOf, readLevelOf, driverOf, marked, hasFlow, hasRead, hasWrite}
 use Rattle.model.specs.Effects.{Effect, flow, flow-if, read-access, write-access, make-task, make-object, move-to, clear, mark-outside, mark-thing, objectOf, withBytes, effect, effects}
 use Rattle.model.specs.MarkLaws.{where-words, where-length, where-field, where-marks, marked-where}
 
 -- ---- what an effect has to fit
 
 -- the memory's lengths are right
-pub record Long (m : Memory) : Type 0 where
-  pub bytes-long : length (m .bytes) ≡ recordSize * numbers
-  pub words-long : length (m .words) ≡ rowSize * (numbers * tables)
+pub record Long {size : Size} (m : MemoryOf size) : Type 0 where
+  pub bytes-long : length (m .bytes) ≡ lentBytes size
+  pub words-long : length (m .words) ≡ lentWords size
 
-pub fit-long : (m : Memory) → lengthsFit m ≡ true → Long m
+pub fit-long : {size : Size} (m : MemoryOf size) → lengthsFit m ≡ true → Long m
 unfolding lengthsFit
 fit-long m h = let p = simp and-eq-true-iff at h in record { bytes-long = eqb-true _ _ (p .0); words-long = eqb-true _ _ (p .1) }
 
-pub long-fits : {m : Memory} → Long m → lengthsFit m ≡ true
+pub long-fits : {size : Size} {m : MemoryOf size} → Long m → lengthsFit m ≡ true
 unfolding lengthsFit
 long-fits l = and-i (eq-eqb _ _ (l .bytes-long)) (eq-eqb _ _ (l .words-long))
 
--- the numbers whose record, row or column it writes are below 128
-abbrev pub Fits : Effect → Type 0
-Fits (flow x y) = (x < numbers) × (y < numbers)
-Fits (flow-if b x y) = (x < numbers) × (y < numbers)
-Fits (read-access e x) = (e < numbers) × (x < numbers)
-Fits (write-access e x) = (e < numbers) × (x < numbers)
-Fits (make-task n l r) = n < numbers
-Fits (make-object n l d c b) = n < numbers
-Fits (move-to x c) = x < numbers
-Fits (clear x) = x < numbers
-Fits (mark-outside e) = e < numbers
-Fits (mark-thing x) = x < numbers
+-- the numbers whose record, row or column it writes are fit
+abbrev pub Fits : Size → Effect → Type 0
+Fits size (flow x y) = (x < numbersOf size) × (y < numbersOf size)
+Fits size (flow-if b x y) = (x < numbersOf size) × (y < numbersOf size)
+Fits size (read-access e x) = (e < numbersOf size) × (x < numbersOf size)
+Fits size (write-access e x) = (e < numbersOf size) × (x < numbersOf size)
+Fits size (make-task n l r) = n < numbersOf size
+Fits size (make-object n l d c b) = n < numbersOf size
+Fits size (move-to x c) = x < numbersOf size
+Fits size (clear x) = x < numbersOf size
+Fits size (mark-outside e) = e < numbersOf size
+Fits size (mark-thing x) = x < numbersOf size
 
 -- ---- lengths
 
-pub effect-bytes : (e : Effect) (m : Memory) → length (effect e m .bytes) ≡ length (m .bytes)
+pub effect-bytes : {size : Size} (e : Effect) (m : MemoryOf size) → length (effect e m .bytes) ≡ length (m .bytes)
 unfolding effect
 effect-bytes (flow x y) m = refl
 effect-bytes (flow-if b x y) m = refl
 effect-bytes (read-access e x) m = refl
 effect-bytes (write-access e x) m = refl
-effect-bytes (make-task n l r) m = length-record (m .bytes) n _ _ _ _ _ _
-effect-bytes (make-object n l d c b) m = length-record (m .bytes) n _ _ _ _ _ _
+effect-bytes (make-task n l r) m = length-record (m .bytes) n _ _ _ _ _ _ _
+effect-bytes (make-object n l d p b) m = length-record (m .bytes) n _ _ _ _ _ _ _
 effect-bytes (move-to x c) m = length-field (m .bytes) x _ _
-effect-bytes (clear x) m = length-record (m .bytes) x _ _ _ _ _ _
+effect-bytes (clear x) m = length-record (m .bytes) x _ _ _ _ _ _ _
 effect-bytes (mark-outside e) m = where-length _ _ ∙ length-field (m .bytes) e _ _
 effect-bytes (mark-thing x) m = where-length _ _
 
-pub effect-words : (e : Effect) (m : Memory) → length (effect e m .words) ≡ length (m .words)
+pub effect-words : {size : Size} (e : Effect) (m : MemoryOf size) → length (effect e m .words) ≡ length (m .words)
 unfolding effect
 effect-words (flow x y) m = length-add _ _ _ _
 effect-words (flow-if true x y) m = length-add _ _ _ _
@@ -73,14 +73,14 @@ effect-words (write-access e x) m = length-add _ _ _ _
 effect-words (make-task n l r) m = refl
 effect-words (make-object n l d c b) m = refl
 effect-words (move-to x c) m = refl
-effect-words (clear x) m = length-clear rowSize numbers tables x (m .words)
+effect-words {size} (clear x) m = length-clear (rowSizeOf size) (numbersOf size) tables x (m .words)
 effect-words (mark-outside e) m = ap length (where-words _ _)
 effect-words (mark-thing x) m = ap length (where-words _ _)
 
-pub effect-long : (e : Effect) {m : Memory} → Long m → Long (effect e m)
+pub effect-long : {size : Size} (e : Effect) {m : MemoryOf size} → Long m → Long (effect e m)
 effect-long e {m} l = record { bytes-long = effect-bytes e m ∙ l .bytes-long; words-long = effect-words e m ∙ l .words-long }
 
-pub effects-long : (es : List Effect) {m : Memory} → Long m → Long (effects es m)
+pub effects-long : {size : Size} (es : List Effect) {m : MemoryOf size} → Long m → Long (effects es m)
 unfolding effects
 effects-long [] l = l
 effects-long (e ∷ es) l = effects-long es (effect-long e l)
@@ -100,27 +100,22 @@ cellAfter i u v (clear x) b = b && not (eqb u x) && not (eqb v x)
 cellAfter i u v (mark-outside e) b = b
 cellAfter i u v (mark-thing x) b = b
 
-same-row : (i j u x : ℕ) → u < numbers → x < numbers → eqb (numbers * i + u) (numbers * j + x) ≡ (eqb i j && eqb u x)
-same-row i j u x lu lx = both-ways _ _ there back
+same-row : (size : Size) (i j u x : ℕ) → u < numbersOf size → x < numbersOf size → eqb (rowOf size i u) (rowOf size j x) ≡ (eqb i j && eqb u x)
+same-row size i j u x lu lx = both-ways _ _ there back
   where
-    there : eqb (numbers * i + u) (numbers * j + x) ≡ true → (eqb i j && eqb u x) ≡ true
-    there e =
-        let q : numbers * i + u ≡ numbers * j + x = eqb-true _ _ e in
-        and-i (eq-eqb i j (omega arith)) (eq-eqb u x (omega arith))
+    there : eqb (rowOf size i u) (rowOf size j x) ≡ true → (eqb i j && eqb u x) ≡ true
+    there e = let q = same-place (numbersOf size) lx lu (eqb-true _ _ e) in and-i (eq-eqb i j (q .0)) (eq-eqb u x (q .1))
 
-    back : (eqb i j && eqb u x) ≡ true → eqb (numbers * i + u) (numbers * j + x) ≡ true
-    back e =
-        let p = eqb-true i j (and-l (eqb i j) (eqb u x) e) in
-        let q = eqb-true u x (and-r (eqb i j) (eqb u x) e) in
-        eq-eqb (numbers * i + u) (numbers * j + x) (omega arith)
+    back : (eqb i j && eqb u x) ≡ true → eqb (rowOf size i u) (rowOf size j x) ≡ true
+    back e = eq-eqb _ _ (ap₂ (rowOf size) (eqb-true i j (and-l (eqb i j) (eqb u x) e)) (eqb-true u x (and-r (eqb i j) (eqb u x) e)))
 
-table-add : (ws : List ℕ) (i j x y u v : ℕ) → length ws ≡ rowSize * (numbers * tables) → j < tables → x < numbers → y < numbers → u < numbers → v < numbers
-    → cell rowSize (addCell rowSize ws (numbers * j + x) y) (numbers * i + u) v
-    ≡ cond (eqb i j) (cell rowSize ws (numbers * i + u) v || (eqb u x && eqb v y)) (cell rowSize ws (numbers * i + u) v)
-table-add ws i j x y u v l lj lx ly lu lv =
-    cell-add rowSize ws (numbers * j + x) y (numbers * i + u) v (omega arith) ly lv
-    ∙ ap (λ (b : Bool). cell rowSize ws (numbers * i + u) v || (b && eqb v y)) (same-row i j u x lu lx)
-    ∙ go (eqb i j) (cell rowSize ws (numbers * i + u) v)
+table-add : (size : Size) (ws : List ℕ) (i j x y u v : ℕ) → length ws ≡ lentWords size → j < tables → x < numbersOf size → y < numbersOf size → u < numbersOf size → v < numbersOf size
+    → cell (rowSizeOf size) (addCell (rowSizeOf size) ws (rowOf size j x) y) (rowOf size i u) v
+    ≡ cond (eqb i j) (cell (rowSizeOf size) ws (rowOf size i u) v || (eqb u x && eqb v y)) (cell (rowSizeOf size) ws (rowOf size i u) v)
+table-add size ws i j x y u v l lj lx ly lu lv =
+    cell-add (rowSizeOf size) ws (rowOf size j x) y (rowOf size i u) v (rw l (place-below (rowSizeOf size) (numbersOf size) tables j x y lj lx ly)) ly lv
+    ∙ ap (λ (b : Bool). cell (rowSizeOf size) ws (rowOf size i u) v || (b && eqb v y)) (same-row size i j u x lu lx)
+    ∙ go (eqb i j) (cell (rowSizeOf size) ws (rowOf size i u) v)
   where
     go : (s b : Bool) → (b || ((s && eqb u x) && eqb v y)) ≡ cond s (b || (eqb u x && eqb v y)) b
     go true b = refl
@@ -128,59 +123,62 @@ table-add ws i j x y u v l lj lx ly lu lv =
     go false false = refl
 
 -- the flows are the first table
-flow-add : (m : Memory) (i x y u v : ℕ) → Long m → (x < numbers) × (y < numbers) → u < numbers → v < numbers
-    → cell rowSize (addCell rowSize (m .words) x y) (numbers * i + u) v
-    ≡ cond (eqb i 0) (cell rowSize (m .words) (numbers * i + u) v || (eqb u x && eqb v y)) (cell rowSize (m .words) (numbers * i + u) v)
-flow-add m i x y u v l f lu lv =
-    ap (λ (r : ℕ). cell rowSize (addCell rowSize (m .words) r y) (numbers * i + u) v) (sym (zero-add x))
-    ∙ table-add (m .words) i 0 x y u v (l .words-long) (omega arith) (f .0) (f .1) lu lv
+first-row : (size : Size) (x : ℕ) → rowOf size 0 x ≡ x
+first-row size x = omega arith
 
-table-after : (i : ℕ) (e : Effect) (m : Memory) → i < tables → Long m → Fits e → (u v : ℕ) → u < numbers → v < numbers
-    → cell rowSize (effect e m .words) (numbers * i + u) v ≡ cellAfter i u v e (cell rowSize (m .words) (numbers * i + u) v)
+flow-add : {size : Size} (m : MemoryOf size) (i x y u v : ℕ) → Long m → (x < numbersOf size) × (y < numbersOf size) → u < numbersOf size → v < numbersOf size
+    → cell (rowSizeOf size) (addCell (rowSizeOf size) (m .words) x y) (rowOf size i u) v
+    ≡ cond (eqb i 0) (cell (rowSizeOf size) (m .words) (rowOf size i u) v || (eqb u x && eqb v y)) (cell (rowSizeOf size) (m .words) (rowOf size i u) v)
+flow-add {size} m i x y u v l f lu lv =
+    ap (λ (r : ℕ). cell (rowSizeOf size) (addCell (rowSizeOf size) (m .words) r y) (rowOf size i u) v) (sym (first-row size x))
+    ∙ table-add size (m .words) i 0 x y u v (l .words-long) (omega arith) (f .0) (f .1) lu lv
+
+table-after : {size : Size} (i : ℕ) (e : Effect) (m : MemoryOf size) → i < tables → Long m → Fits size e → (u v : ℕ) → u < numbersOf size → v < numbersOf size
+    → cell (rowSizeOf size) (effect e m .words) (rowOf size i u) v ≡ cellAfter i u v e (cell (rowSizeOf size) (m .words) (rowOf size i u) v)
 unfolding effect
 table-after i (flow x y) m li l f u v lu lv = flow-add m i x y u v l f lu lv
 table-after i (flow-if true x y) m li l f u v lu lv = flow-add m i x y u v l f lu lv
-table-after i (flow-if false x y) m li l f u v lu lv = no-flow (eqb i 0) (cell rowSize (m .words) (numbers * i + u) v)
+table-after {size} i (flow-if false x y) m li l f u v lu lv = no-flow (eqb i 0) (cell (rowSizeOf size) (m .words) (rowOf size i u) v)
   where
     no-flow : (c b : Bool) → b ≡ cond c (b || false) b
     no-flow true b = sym (or-false b)
     no-flow false b = refl
-table-after i (read-access e x) m li l f u v lu lv = table-add (m .words) i 1 e x u v (l .words-long) (omega arith) (f .0) (f .1) lu lv
-table-after i (write-access e x) m li l f u v lu lv = table-add (m .words) i 2 e x u v (l .words-long) (omega arith) (f .0) (f .1) lu lv
+table-after {size} i (read-access e x) m li l f u v lu lv = table-add size (m .words) i 1 e x u v (l .words-long) (omega arith) (f .0) (f .1) lu lv
+table-after {size} i (write-access e x) m li l f u v lu lv = table-add size (m .words) i 2 e x u v (l .words-long) (omega arith) (f .0) (f .1) lu lv
 table-after i (make-task n l r) m li h f u v lu lv = refl
 table-after i (make-object n l d c b) m li h f u v lu lv = refl
 table-after i (move-to x c) m li l f u v lu lv = refl
-table-after i (clear x) m li l f u v lu lv = cell-clear rowSize numbers tables x (m .words) i u v li lu lv f f
+table-after {size} i (clear x) m li l f u v lu lv = cell-clear (rowSizeOf size) (numbersOf size) tables x (m .words) i u v li lu lv f f
 table-after i (mark-outside e) m li l f u v lu lv = rw where-words
 table-after i (mark-thing x) m li l f u v lu lv = rw where-words
 
-module _ (u v : ℕ) (lu : u < numbers) (lv : v < numbers) where
-  pub flow-after : (e : Effect) (m : Memory) → Long m → Fits e → hasFlow (effect e m) u v ≡ cellAfter 0 u v e (hasFlow m u v)
+module _ {size : Size} (u v : ℕ) (lu : u < numbersOf size) (lv : v < numbersOf size) where
+  pub flow-after : (e : Effect) (m : MemoryOf size) → Long m → Fits size e → hasFlow (effect e m) u v ≡ cellAfter 0 u v e (hasFlow m u v)
   unfolding hasFlow
-  flow-after e m l f = rw (zero-add u) at (table-after 0 e m (omega arith) l f u v lu lv)
+  flow-after e m l f = rw (first-row size u) at (table-after 0 e m (omega arith) l f u v lu lv)
 
-  pub read-after : (e : Effect) (m : Memory) → Long m → Fits e → hasRead (effect e m) u v ≡ cellAfter 1 u v e (hasRead m u v)
+  pub read-after : (e : Effect) (m : MemoryOf size) → Long m → Fits size e → hasRead (effect e m) u v ≡ cellAfter 1 u v e (hasRead m u v)
   unfolding hasRead
   read-after e m l f = table-after 1 e m (omega arith) l f u v lu lv
 
-  pub write-after : (e : Effect) (m : Memory) → Long m → Fits e → hasWrite (effect e m) u v ≡ cellAfter 2 u v e (hasWrite m u v)
+  pub write-after : (e : Effect) (m : MemoryOf size) → Long m → Fits size e → hasWrite (effect e m) u v ≡ cellAfter 2 u v e (hasWrite m u v)
   unfolding hasWrite
   write-after e m l f = table-after 2 e m (omega arith) l f u v lu lv
 
 -- ---- the bytes of a record, but for the marks that marking changes
 
 -- what a test t says of byte f of the record of x, from what it said before
-abbrev pub byteAfter : {A : Type 0} → (ℕ → A) → ℕ → ℕ → Effect → A → A
-byteAfter t x f (flow y z) b = b
-byteAfter t x f (flow-if c y z) b = b
-byteAfter t x f (read-access e y) b = b
-byteAfter t x f (write-access e y) b = b
-byteAfter t x f (make-task n l r) b = cond (eqb x n) (t (getD (1 ∷ l ∷ r ∷ 0 ∷ 0 ∷ 0 ∷ 0 ∷ 0 ∷ []) f 0)) b
-byteAfter t x f (make-object n l d c w) b = cond (eqb x n) (t (getD (2 ∷ l ∷ 0 ∷ d ∷ c ∷ one w ∷ 0 ∷ 0 ∷ []) f 0)) b
-byteAfter t x f (move-to y c) b = cond (eqb f 4 && eqb x y) (t c) b
-byteAfter t x f (clear y) b = cond (eqb x y) (t 0) b
-byteAfter t x f (mark-outside e) b = b
-byteAfter t x f (mark-thing y) b = b
+abbrev pub byteAfter : {A : Type 0} → Size → (ℕ → A) → ℕ → ℕ → Effect → A → A
+byteAfter size t x f (flow y z) b = b
+byteAfter size t x f (flow-if c y z) b = b
+byteAfter size t x f (read-access e y) b = b
+byteAfter size t x f (write-access e y) b = b
+byteAfter size t x f (make-task n l r) b = cond (eqb x n) (t (getD (1 ∷ l ∷ r ∷ 0 ∷ 0 ∷ 0 ∷ 0 ∷ 0 ∷ []) f 0)) b
+byteAfter size t x f (make-object n l d p w) b = cond (eqb x n) (t (getD (2 ∷ l ∷ 0 ∷ d ∷ containerByte p size ∷ one w ∷ spareByte p size ∷ 0 ∷ []) f 0)) b
+byteAfter size t x f (move-to y c) b = cond (eqb f 4 && eqb x y) (t c) b
+byteAfter size t x f (clear y) b = cond (eqb x y) (t 0) b
+byteAfter size t x f (mark-outside e) b = b
+byteAfter size t x f (mark-thing y) b = b
 
 -- the byte is not the marks, or the effect marks nothing
 abbrev pub Apart : ℕ → Effect → Type 0
@@ -195,9 +193,9 @@ Apart f (clear y) = Unit {0}
 Apart f (mark-outside e) = f ≡ 5 → ⊥
 Apart f (mark-thing y) = f ≡ 5 → ⊥
 
-field-set : (bs : List ℕ) (y g v x f : ℕ) → length bs ≡ recordSize * numbers → y < numbers → g < 8 → f < 8
+pub field-set : (size : Size) (bs : List ℕ) (y g v x f : ℕ) → length bs ≡ lentBytes size → y < numbersOf size → g < 8 → f < 8
     → field (setField bs y g v) x f ≡ cond (eqb f g && eqb x y) v (field bs x f)
-field-set bs y g v x f l ly lg lf = go (either (eqb f g)) (either (eqb x y))
+field-set size bs y g v x f l ly lg lf = go (either (eqb f g)) (either (eqb x y))
   where
     go : (eqb f g ≡ true) ⊎ (eqb f g ≡ false) → (eqb x y ≡ true) ⊎ (eqb x y ≡ false) → field (setField bs y g v) x f ≡ cond (eqb f g && eqb x y) v (field bs x f)
     go (inl e) (inl d) = rw (e, d, eqb-true f g e, eqb-true x y d) (field-same bs y g v (omega arith))
@@ -208,15 +206,15 @@ cond-ap : {A : Type 0} (t : ℕ → A) (b : Bool) (u v : ℕ) → t (cond b u v)
 cond-ap t true u v = refl
 cond-ap t false u v = refl
 
-field-record : (bs : List ℕ) (n k l r d c w x f : ℕ) → length bs ≡ recordSize * numbers → n < numbers → f < 8
-    → field (setRecord bs n k l r d c w) x f ≡ cond (eqb x n) (getD (k ∷ l ∷ r ∷ d ∷ c ∷ w ∷ 0 ∷ 0 ∷ []) f 0) (field bs x f)
-field-record bs n k l r d c w x f len ln lf =
-    ⊎-elim (λ (e : eqb x n ≡ true). rw (e, eqb-true x n e) (at f lf)) (λ (e : eqb x n ≡ false). rw e (record-else bs n k l r d c w x f (eqb-false x n e) lf)) (either (eqb x n))
+field-record : (size : Size) (bs : List ℕ) (n k l r d c w s x f : ℕ) → length bs ≡ lentBytes size → n < numbersOf size → f < 8
+    → field (setRecord bs n k l r d c w s) x f ≡ cond (eqb x n) (getD (k ∷ l ∷ r ∷ d ∷ c ∷ w ∷ s ∷ 0 ∷ []) f 0) (field bs x f)
+field-record size bs n k l r d c w s x f len ln lf =
+    ⊎-elim (λ (e : eqb x n ≡ true). rw (e, eqb-true x n e) (at f lf)) (λ (e : eqb x n ≡ false). rw e (record-else bs n k l r d c w s x f (eqb-false x n e) lf)) (either (eqb x n))
   where
-    new : Fields (setRecord bs n k l r d c w) n k l r d c w
-    new = record-same bs n k l r d c w len ln
+    new : Fields (setRecord bs n k l r d c w s) n k l r d c w s
+    new = record-same bs n k l r d c w s size len ln
 
-    at : (f : ℕ) → f < 8 → field (setRecord bs n k l r d c w) n f ≡ getD (k ∷ l ∷ r ∷ d ∷ c ∷ w ∷ 0 ∷ 0 ∷ []) f 0
+    at : (f : ℕ) → f < 8 → field (setRecord bs n k l r d c w s) n f ≡ getD (k ∷ l ∷ r ∷ d ∷ c ∷ w ∷ s ∷ 0 ∷ []) f 0
     at zero h = new .kind-is
     at (suc zero) h = new .level-is
     at (suc (suc zero)) h = new .read-is
@@ -227,26 +225,26 @@ field-record bs n k l r d c w x f len ln lf =
     at (suc (suc (suc (suc (suc (suc (suc zero))))))) h = new .last-is
     at (suc (suc (suc (suc (suc (suc (suc (suc f)))))))) h = absurd (omega arith)
 
-record-test : {A : Type 0} (t : ℕ → A) (bs : List ℕ) (n k l r d c w x f : ℕ) → length bs ≡ recordSize * numbers → n < numbers → f < 8
-    → t (field (setRecord bs n k l r d c w) x f) ≡ cond (eqb x n) (t (getD (k ∷ l ∷ r ∷ d ∷ c ∷ w ∷ 0 ∷ 0 ∷ []) f 0)) (t (field bs x f))
-record-test t bs n k l r d c w x f len ln lf =
-    ap t (field-record bs n k l r d c w x f len ln lf) ∙ cond-ap t (eqb x n) (getD (k ∷ l ∷ r ∷ d ∷ c ∷ w ∷ 0 ∷ 0 ∷ []) f 0) (field bs x f)
+record-test : (size : Size) {A : Type 0} (t : ℕ → A) (bs : List ℕ) (n k l r d c w s x f : ℕ) → length bs ≡ lentBytes size → n < numbersOf size → f < 8
+    → t (field (setRecord bs n k l r d c w s) x f) ≡ cond (eqb x n) (t (getD (k ∷ l ∷ r ∷ d ∷ c ∷ w ∷ s ∷ 0 ∷ []) f 0)) (t (field bs x f))
+record-test size t bs n k l r d c w s x f len ln lf =
+    ap t (field-record size bs n k l r d c w s x f len ln lf) ∙ cond-ap t (eqb x n) (getD (k ∷ l ∷ r ∷ d ∷ c ∷ w ∷ s ∷ 0 ∷ []) f 0) (field bs x f)
 
-pub byte-after : {A : Type 0} (t : ℕ → A) (x f : ℕ) → f < 8 → (e : Effect) (m : Memory) → Long m → Fits e → Apart f e
-    → t (field (effect e m .bytes) x f) ≡ byteAfter t x f e (t (field (m .bytes) x f))
+pub byte-after : {size : Size} {A : Type 0} (t : ℕ → A) (x f : ℕ) → f < 8 → (e : Effect) (m : MemoryOf size) → Long m → Fits size e → Apart f e
+    → t (field (effect e m .bytes) x f) ≡ byteAfter size t x f e (t (field (m .bytes) x f))
 unfolding effect
 byte-after t x f lf (flow y z) m l h a = refl
 byte-after t x f lf (flow-if c y z) m l h a = refl
 byte-after t x f lf (read-access e y) m l h a = refl
 byte-after t x f lf (write-access e y) m l h a = refl
-byte-after t x f lf (make-task n k r) m l h a = record-test t (m .bytes) n _ _ _ _ _ _ x f (l .bytes-long) h lf
-byte-after t x f lf (make-object n k d c w) m l h a = record-test t (m .bytes) n _ _ _ _ _ _ x f (l .bytes-long) h lf
-byte-after t x f lf (move-to y c) m l h a = ap t (field-set (m .bytes) y 4 c x f (l .bytes-long) h (omega arith) lf) ∙ cond-ap t (eqb f 4 && eqb x y) c (field (m .bytes) x f)
-byte-after t x f lf (clear y) m l h a =
-    record-test t (m .bytes) y _ _ _ _ _ _ x f (l .bytes-long) h lf
+byte-after {size} t x f lf (make-task n k r) m l h a = record-test size t (m .bytes) n _ _ _ _ _ _ _ x f (l .bytes-long) h lf
+byte-after {size} t x f lf (make-object n k d p w) m l h a = record-test size t (m .bytes) n _ _ _ _ _ _ _ x f (l .bytes-long) h lf
+byte-after {size} t x f lf (move-to y c) m l h a = ap t (field-set size (m .bytes) y 4 c x f (l .bytes-long) h (omega arith) lf) ∙ cond-ap t (eqb f 4 && eqb x y) c (field (m .bytes) x f)
+byte-after {size} t x f lf (clear y) m l h a =
+    record-test size t (m .bytes) y _ _ _ _ _ _ _ x f (l .bytes-long) h lf
     ∙ ap (λ (b : ℕ). cond (eqb x y) (t b) (t (field (m .bytes) x f))) (getD-replicate 8 f 0 0 lf)
-byte-after t x f lf (mark-outside e) m l h a =
-    ap t (where-field _ _ x f lf a ∙ field-set (m .bytes) e 5 3 x f (l .bytes-long) h (omega arith) lf ∙ rw (ne-eqb f 5 a))
+byte-after {size} t x f lf (mark-outside e) m l h a =
+    ap t (where-field _ _ x f lf a ∙ field-set size (m .bytes) e 5 3 x f (l .bytes-long) h (omega arith) lf ∙ rw (ne-eqb f 5 a))
 byte-after t x f lf (mark-thing y) m l h a = ap t (where-field _ _ x f lf a)
 
 apart : (f : ℕ) → (f ≡ 5 → ⊥) → (e : Effect) → Apart f e
@@ -274,69 +272,63 @@ markedAfter x (clear y) b = cond (eqb x y) false b
 markedAfter x (mark-outside e) b = b
 markedAfter x (mark-thing y) b = b
 
-same-marked : (x : ℕ) (e : Effect) (b : Bool) → byteAfter (λ k. not (eqb k 0)) x 5 e b ≡ markedAfter x e b
-same-marked x (flow y z) b = refl
-same-marked x (flow-if c y z) b = refl
-same-marked x (read-access e y) b = refl
-same-marked x (write-access e y) b = refl
-same-marked x (make-task n l r) b = refl
-same-marked x (make-object n l d c true) b = refl
-same-marked x (make-object n l d c false) b = refl
-same-marked x (move-to y c) b = refl
-same-marked x (clear y) b = refl
-same-marked x (mark-outside e) b = refl
-same-marked x (mark-thing y) b = refl
+same-marked : (size : Size) (x : ℕ) (e : Effect) (b : Bool) → byteAfter size (λ k. not (eqb k 0)) x 5 e b ≡ markedAfter x e b
+same-marked size x (flow y z) b = refl
+same-marked size x (flow-if c y z) b = refl
+same-marked size x (read-access e y) b = refl
+same-marked size x (write-access e y) b = refl
+same-marked size x (make-task n l r) b = refl
+same-marked size x (make-object n l d c true) b = refl
+same-marked size x (make-object n l d c false) b = refl
+same-marked size x (move-to y c) b = refl
+same-marked size x (clear y) b = refl
+same-marked size x (mark-outside e) b = refl
+same-marked size x (mark-thing y) b = refl
 
-module _ (x : ℕ) where
-  see : {A : Type 0} (t : ℕ → A) (f : ℕ) → f < 8 → (f ≡ 5 → ⊥) → (e : Effect) (m : Memory) → Long m → Fits e
-      → t (field (effect e m .bytes) x f) ≡ byteAfter t x f e (t (field (m .bytes) x f))
+module _ {size : Size} (x : ℕ) where
+  see : {A : Type 0} (t : ℕ → A) (f : ℕ) → f < 8 → (f ≡ 5 → ⊥) → (e : Effect) (m : MemoryOf size) → Long m → Fits size e
+      → t (field (effect e m .bytes) x f) ≡ byteAfter size t x f e (t (field (m .bytes) x f))
   see t f lf n e m l h = byte-after t x f lf e m l h (apart f n e)
 
-  pub inUse-after : (e : Effect) (m : Memory) → Long m → Fits e → inUse (effect e m) x ≡ byteAfter (λ k. not (eqb k 0)) x 0 e (inUse m x)
+  pub inUse-after : (e : Effect) (m : MemoryOf size) → Long m → Fits size e → inUse (effect e m) x ≡ byteAfter size (λ k. not (eqb k 0)) x 0 e (inUse m x)
   unfolding inUse
   inUse-after = see (λ k. not (eqb k 0)) 0 (omega arith) (omega arith)
 
-  pub task-after : (e : Effect) (m : Memory) → Long m → Fits e → task (effect e m) x ≡ byteAfter (λ k. eqb k 1) x 0 e (task m x)
+  pub task-after : (e : Effect) (m : MemoryOf size) → Long m → Fits size e → task (effect e m) x ≡ byteAfter size (λ k. eqb k 1) x 0 e (task m x)
   unfolding task isTask
   task-after = see (λ k. eqb k 1) 0 (omega arith) (omega arith)
 
-  pub object-after : (e : Effect) (m : Memory) → Long m → Fits e → object (effect e m) x ≡ byteAfter (λ k. eqb k 2) x 0 e (object m x)
+  pub object-after : (e : Effect) (m : MemoryOf size) → Long m → Fits size e → object (effect e m) x ≡ byteAfter size (λ k. eqb k 2) x 0 e (object m x)
   unfolding object isObject
   object-after = see (λ k. eqb k 2) 0 (omega arith) (omega arith)
 
-  pub level-after : (e : Effect) (m : Memory) → Long m → Fits e → levelOf (effect e m) x ≡ byteAfter (λ k. k) x 1 e (levelOf m x)
+  pub level-after : (e : Effect) (m : MemoryOf size) → Long m → Fits size e → levelOf (effect e m) x ≡ byteAfter size (λ k. k) x 1 e (levelOf m x)
   level-after = see (λ k. k) 1 (omega arith) (omega arith)
 
-  pub readLevel-after : (e : Effect) (m : Memory) → Long m → Fits e → readLevelOf (effect e m) x ≡ byteAfter (λ k. k) x 2 e (readLevelOf m x)
+  pub readLevel-after : (e : Effect) (m : MemoryOf size) → Long m → Fits size e → readLevelOf (effect e m) x ≡ byteAfter size (λ k. k) x 2 e (readLevelOf m x)
   readLevel-after = see (λ k. k) 2 (omega arith) (omega arith)
 
-  pub driver-after : (e : Effect) (m : Memory) → Long m → Fits e → driverOf (effect e m) x ≡ byteAfter (λ k. k) x 3 e (driverOf m x)
+  pub driver-after : (e : Effect) (m : MemoryOf size) → Long m → Fits size e → driverOf (effect e m) x ≡ byteAfter size (λ k. k) x 3 e (driverOf m x)
   driver-after = see (λ k. k) 3 (omega arith) (omega arith)
 
-  pub container-after : (e : Effect) (m : Memory) → Long m → Fits e → containerOf (effect e m) x ≡ byteAfter (λ k. k) x 4 e (containerOf m x)
-  container-after = see (λ k. k) 4 (omega arith) (omega arith)
-
-  -- ---- marks
-
-  -- byte 5 itself, after an effect that marks nothing
-  pub marks-after : (e : Effect) (m : Memory) → Long m → Fits e × Apart 5 e → marks (effect e m .bytes) x ≡ byteAfter (λ k. k) x 5 e (marks (m .bytes) x)
+  pub marks-after : (e : Effect) (m : MemoryOf size) → Long m → Fits size e × Apart 5 e → marks (effect e m .bytes) x ≡ byteAfter size (λ k. k) x 5 e (marks (m .bytes) x)
   marks-after e m l h = byte-after (λ k. k) x 5 (omega arith) e m l (h .0) (h .1)
 
-  pub marked-after : (e : Effect) (m : Memory) → Long m → Fits e × Apart 5 e → marked (effect e m) x ≡ markedAfter x e (marked m x)
+  pub marked-after : (e : Effect) (m : MemoryOf size) → Long m → Fits size e × Apart 5 e → marked (effect e m) x ≡ markedAfter x e (marked m x)
   unfolding marked
-  marked-after e m l h = byte-after (λ k. not (eqb k 0)) x 5 (omega arith) e m l (h .0) (h .1) ∙ same-marked x e (marked m x)
+  marked-after e m l h = byte-after (λ k. not (eqb k 0)) x 5 (omega arith) e m l (h .0) (h .1) ∙ same-marked size x e (marked m x)
 
   -- after the two that mark
-  module _ (m : Memory) (l : Long m) (lx : x < numbers) where
+  module _ (m : MemoryOf size) (l : Long m) (lx : x < numbersOf size) where
     -- the store of 3, before the task's objects are marked
-    stored : (e : ℕ) → e < numbers → field (setField (m .bytes) e 5 3) x 5 ≡ cond (eqb x e) 3 (marks (m .bytes) x)
-    stored e le = field-set (m .bytes) e 5 3 x 5 (l .bytes-long) le (omega arith) (omega arith)
+    stored : (e : ℕ) → e < numbersOf size → field (setField (m .bytes) e 5 3) x 5 ≡ cond (eqb x e) 3 (marks (m .bytes) x)
+    stored e le = field-set size (m .bytes) e 5 3 x 5 (l .bytes-long) le (omega arith) (omega arith)
 
-    stored-marked : (e : ℕ) → e < numbers → marked (withBytes m (setField (m .bytes) e 5 3)) x ≡ cond (eqb x e) true (marked m x)
+    stored-marked : (e : ℕ) → e < numbersOf size → marked (withBytes m (setField (m .bytes) e 5 3)) x ≡ cond (eqb x e) true (marked m x)
     unfolding marked
     stored-marked e le = ap (λ (k : ℕ). not (eqb k 0)) (stored e le) ∙ cond-ap (λ k. not (eqb k 0)) (eqb x e) 3 (marks (m .bytes) x)
 
-    pub outside-marks : (e : ℕ) → e < numbers → marks (effect (mark-outside e) m .bytes) x ≡ cond (eqb x e) 3 (cond (objectOf m e x && not (marked m x)) 1 (marks (m .bytes) x))
+    pub outside-marks : (e : ℕ) → e < numbersOf size → marks (effect (mark-outside e) m .bytes) x ≡ cond (eqb x e) 3 (cond (objectOf m e x && not (marked m x)) 1 (marks (m .bytes) x))
     unfolding effect
     outside-marks e le =
         where-marks _ _ x lx (length-field (m .bytes) e 5 3 ∙ l .bytes-long)
@@ -348,7 +340,7 @@ module _ (x : ℕ) where
         go true false = refl
         go false p = refl
 
-    pub outside-marked : (e : ℕ) → e < numbers → marked (effect (mark-outside e) m) x ≡ (marked m x || (eqb x e || objectOf m e x))
+    pub outside-marked : (e : ℕ) → e < numbersOf size → marked (effect (mark-outside e) m) x ≡ (marked m x || (eqb x e || objectOf m e x))
     unfolding effect
     outside-marked e le =
         marked-where _ _ x lx (length-field (m .bytes) e 5 3 ∙ l .bytes-long) ∙ ap (λ (b : Bool). b || objectOf m e x) (stored-marked e le) ∙ go (eqb x e)

@@ -7,9 +7,10 @@ use lib.Dec.{ltb, eqb}
 use Rattle.bits.specs.All.{anyB}
 use Rattle.levels.specs.declared.Order.{Order}
 use Rattle.levels.specs.Order.{atOrBelow, inOrder}
-use Rattle.records.specs.Records.{numbers, rootSign}
+use Rattle.rows.specs.Size.{Size, present, numbersOf}
+use Rattle.records.specs.Records.{Place, root, within}
 use Rattle.model.specs.Verdicts.{granted, slipped, isDone, row-number, row-taken, row-driver, row-place, row-held, row-scale, row-path, row-rule, row-filled, row-still}
-use Rattle.model.specs.State.{Memory, memory, inUse, task, object, levelOf, readLevelOf, driverOf, containerOf, marked, hasFlow, hasRead, hasWrite}
+use Rattle.model.specs.State.{MemoryOf, memory, inUse, task, object, levelOf, readLevelOf, driverOf, liesIn, marked, hasFlow, hasRead, hasWrite}
 use Rattle.model.specs.Effects.{Effect, flow, flow-if, read-access, write-access, make-task, make-object, move-to, clear, mark-outside, mark-thing, effects}
 
 -- a row of the table of verdicts, and what has to hold for it not to apply
@@ -24,11 +25,15 @@ pub record Event : Type 0 where
 
 -- ---- from a table to an outcome
 
--- what a call answers and leaves
-pub record Outcome : Type 0 where
+-- what a call on a memory of a size answers and leaves
+pub record OutcomeOf (size : Size) : Type 0 where
   pub verdict : ℕ
   pub rounds : ℕ
-  pub memory : Memory
+  pub memory : MemoryOf size
+
+-- of the size in use
+abbrev pub Outcome : Type 0
+Outcome = OutcomeOf present
 
 -- what a contract says of a verdict, of rounds and of what is left of the bytes and the words
 abbrev pub left : ℕ → ℕ → List ℕ → List ℕ → Outcome
@@ -46,11 +51,11 @@ unfoldable pub verdictOf : Event → ℕ
 verdictOf e = firstFailing (e .tests) (unless (e .honest) slipped granted)
 
 -- granted or slipped, the effects are recorded; a refusal keeps bytes and words
-unfoldable pub outcome : Memory → Event → Outcome
+unfoldable pub outcome : {size : Size} → MemoryOf size → Event → OutcomeOf size
 outcome m e = record { verdict = verdictOf e; rounds = 0; memory = cond (isDone (verdictOf e)) (effects (e .effects) m) m }
 
--- ---- the events, under an order and on a memory
-module _ (o : Order) (m : Memory) where
+-- ---- the events, under an order and on a memory of either size
+module _ {size : Size} (o : Order) (m : MemoryOf size) where
   infix 40 _⊑_
   -- a ≤ b of document 01
   abbrev _⊑_ : ℕ → ℕ → Bool
@@ -64,7 +69,7 @@ module _ (o : Order) (m : Memory) where
 
   -- a new number is one of the numbers, and free
   abbrev fits : ℕ → Bool
-  fits n = ltb n numbers
+  fits n = ltb n (numbersOf size)
 
   abbrev free : ℕ → Bool
   free n = not (inUse m n)
@@ -118,8 +123,8 @@ module _ (o : Order) (m : Memory) where
       }
 
   -- a new object n of the driver d, asked for by c; with the driver marked, it is marked, and the creator's flows are recorded
-  abbrev created : ℕ → ℕ → ℕ → ℕ → ℕ → List Effect
-  created c d n k l = make-object n l d k (marked m d) ∷ flow-if (marked m d) c n ∷ flow-if (marked m d) c d ∷ []
+  abbrev created : ℕ → ℕ → ℕ → Place → ℕ → List Effect
+  created c d n p l = make-object n l d p (marked m d) ∷ flow-if (marked m d) c n ∷ flow-if (marked m d) c d ∷ []
 
   -- in the container k
   unfoldable pub create : ℕ → ℕ → ℕ → ℕ → ℕ → Event
@@ -133,7 +138,7 @@ module _ (o : Order) (m : Memory) where
             ∷ need row-rule (l ⊑ L c && l ⊑ L k && l ⊑ L d)
             ∷ [];
         honest = true;
-        effects = created c d n k l;
+        effects = created c d n (within k) l;
       }
 
   -- the same without a container
@@ -147,7 +152,7 @@ module _ (o : Order) (m : Memory) where
             ∷ need row-rule (l ⊑ L c && l ⊑ L d)
             ∷ [];
         honest = true;
-        effects = created c d n rootSign l;
+        effects = created c d n root l;
       }
 
   -- the object x goes from the container f to the container t
@@ -158,7 +163,7 @@ module _ (o : Order) (m : Memory) where
         tests =
             need row-number (task m e && task m d && object m x && object m f && object m t)
             ∷ need row-driver (eqb (driverOf m x) d)
-            ∷ need row-place (not (eqb x f) && not (eqb x t) && not (eqb f t) && eqb (containerOf m x) f)
+            ∷ need row-place (not (eqb x f) && not (eqb x t) && not (eqb f t) && liesIn m x f)
             ∷ need row-held (hasWrite m e f && hasWrite m e t && hasWrite m d f && hasWrite m d t)
             ∷ need row-rule (honest || marked m d)
             ∷ need row-rule (L x ⊑ L d && L x ⊑ L t)
@@ -174,10 +179,10 @@ module _ (o : Order) (m : Memory) where
         tests =
             need row-number (task m e && task m d && object m x && object m k)
             ∷ need row-driver (eqb (driverOf m x) d)
-            ∷ need row-place (eqb (containerOf m x) k)
+            ∷ need row-place (liesIn m x k)
             ∷ need row-held (hasWrite m e k && hasWrite m d k)
             ∷ need row-rule (L x ⊑ L e && L x ⊑ L d)
-            ∷ need row-filled (not (anyB numbers (λ y. object m y && eqb (containerOf m y) x)))
+            ∷ need row-filled (not (anyB (numbersOf size) (λ y. object m y && liesIn m y x)))
             ∷ [];
         honest = true;
         effects = clear x ∷ flow-if (marked m d) e d ∷ [];
@@ -259,7 +264,7 @@ module _ (o : Order) (m : Memory) where
 
   -- a marked thing has a flow to x
   unfoldable pub fed : ℕ → Bool
-  fed x = anyB numbers (λ y. marked m y && hasFlow m y x)
+  fed x = anyB (numbersOf size) (λ y. marked m y && hasFlow m y x)
 
   unfoldable pub step : ℕ → Event
   step x =

@@ -1,5 +1,6 @@
 pub mod Verdicts
 pub mod State
+pub mod Ready
 pub mod StateLaws
 pub mod Effects
 pub mod Events

@@ -4,9 +4,10 @@ use mathlib.Core.Path.{_≡_, refl, _∙_}
 use mathlib.Core.Bool.{Bool, true, false, not, _&&_, _||_, true≢false}
 use Prim.Native.Nat.{ℕ}
 use Rattle.bits.specs.AllLaws.{or-false}
+use Rattle.rows.specs.Size.{Size}
 use Rattle.levels.specs.declared.Order.{Order}
 use Rattle.levels.specs.Order.{atOrBelow}
-use Rattle.model.specs.State.{Memory, levelOf, readLevelOf, driverOf}
+use Rattle.model.specs.State.{MemoryOf, levelOf, readLevelOf, driverOf}
 use Rattle.model.specs.Events.{risky}
 
 by-first : (a b r : Bool) → ((not a && b) || r) ≡ false → (a || b) ≡ true → a ≡ true
@@ -18,7 +19,7 @@ by-second : (a b r : Bool) → (r || (not a && b)) ≡ false → (a || b) ≡ tr
 by-second a b true h e = absurd (true≢false h)
 by-second a b false h e = by-first a b false (or-false (not a && b) ∙ h) e
 
-module _ (o : Order) (m : Memory) (z x : ℕ) (safe : risky o m z x ≡ false) where
+module _ {size : Size} (o : Order) (m : MemoryOf size) (z x : ℕ) (safe : risky o m z x ≡ false) where
   pub past-object : (atOrBelow o (levelOf m z) (levelOf m x) || atOrBelow o (readLevelOf m z) (levelOf m x)) ≡ true → atOrBelow o (levelOf m z) (levelOf m x) ≡ true
   unfolding risky
   past-object = by-first (atOrBelow o (levelOf m z) (levelOf m x)) (atOrBelow o (readLevelOf m z) (levelOf m x)) _ safe

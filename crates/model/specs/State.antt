@@ -6,77 +6,78 @@ use Prim.Native.Nat.{ℕ, _+_, _*_}
 use lib.Dec.{eqb}
 use lib.ListN.{length}
 use Rattle.rows.specs.Rows.{cell}
+use Rattle.rows.specs.Size.{Size, present, rowSizeOf, numbersOf, lentWords}
 use Rattle.records.specs.Records as records
-use Rattle.records.specs.Records.{numbers, recordSize, kind, marks}
+use Rattle.records.specs.Records.{lentBytes, kind, marks}
 
--- what the caller lends
-pub record Memory : Type 0 where
+-- what the caller lends; the size says how it is read, and `lengthsFit` whether it is as long
+pub record MemoryOf (size : Size) : Type 0 where
   pub bytes : List ℕ
   pub words : List ℕ
+
+-- of the size in use
+abbrev pub Memory : Type 0
+Memory = MemoryOf present
 
 abbrev pub memory : List ℕ → List ℕ → Memory
 memory bs ws = record { bytes = bs; words = ws }
 
--- ---- sizes, each once
+-- ---- rows: three tables stand one after the other, flows, then read accesses, then write accesses
 
--- the words of a row of flows or accesses
-abbrev pub rowSize : ℕ
-rowSize = 2
-
--- flows, read accesses and write accesses
-abbrev pub tables : ℕ
-tables = 3
-
-unfoldable pub lengthsFit : Memory → Bool
-lengthsFit m = eqb (length (m .bytes)) (recordSize * numbers) && eqb (length (m .words)) (rowSize * (numbers * tables))
-
--- ---- rows: the three tables stand one after the other
+-- row x of the table t; tables count from 0
+abbrev pub rowOf : Size → ℕ → ℕ → ℕ
+rowOf size t x = numbersOf size * t + x
 
 abbrev pub flowRow : ℕ → ℕ
 flowRow x = x
 
-abbrev pub readRow : ℕ → ℕ
-readRow x = numbers + x
+abbrev pub readRow : Size → ℕ → ℕ
+readRow size x = rowOf size 1 x
 
-abbrev pub writeRow : ℕ → ℕ
-writeRow x = numbers * 2 + x
+abbrev pub writeRow : Size → ℕ → ℕ
+writeRow size x = rowOf size 2 x
 
--- ---- what the memory says. A number past 127 is of no kind, since a byte past the end reads as zero
+-- ---- what a memory of either size says. Where the lengths fit, a number past the last is of no kind: a byte past the end reads as zero
 
--- in use means not free
-unfoldable pub inUse : Memory → ℕ → Bool
-inUse m x = not (eqb (kind (m .bytes) x) 0)
+module _ {size : Size} where
+  unfoldable pub lengthsFit : MemoryOf size → Bool
+  lengthsFit m = eqb (length (m .bytes)) (lentBytes size) && eqb (length (m .words)) (lentWords size)
 
-unfoldable pub task : Memory → ℕ → Bool
-task m x = records.isTask (m .bytes) x
+  -- in use means not free
+  unfoldable pub inUse : MemoryOf size → ℕ → Bool
+  inUse m x = not (eqb (kind (m .bytes) x) 0)
 
-unfoldable pub object : Memory → ℕ → Bool
-object m x = records.isObject (m .bytes) x
+  unfoldable pub task : MemoryOf size → ℕ → Bool
+  task m x = records.isTask (m .bytes) x
 
-abbrev pub levelOf : Memory → ℕ → ℕ
-levelOf m x = records.level (m .bytes) x
+  unfoldable pub object : MemoryOf size → ℕ → Bool
+  object m x = records.isObject (m .bytes) x
 
-abbrev pub readLevelOf : Memory → ℕ → ℕ
-readLevelOf m x = records.readLevel (m .bytes) x
+  abbrev pub levelOf : MemoryOf size → ℕ → ℕ
+  levelOf m x = records.level (m .bytes) x
 
-abbrev pub driverOf : Memory → ℕ → ℕ
-driverOf m x = records.driver (m .bytes) x
+  abbrev pub readLevelOf : MemoryOf size → ℕ → ℕ
+  readLevelOf m x = records.readLevel (m .bytes) x
 
-abbrev pub containerOf : Memory → ℕ → ℕ
-containerOf m x = records.container (m .bytes) x
+  abbrev pub driverOf : MemoryOf size → ℕ → ℕ
+  driverOf m x = records.driver (m .bytes) x
 
--- "marked", from outside or not
-unfoldable pub marked : Memory → ℕ → Bool
-marked m x = not (eqb (marks (m .bytes) x) 0)
+  -- the object x is in the container k
+  abbrev pub liesIn : MemoryOf size → ℕ → ℕ → Bool
+  liesIn m x k = records.liesWithin size (m .bytes) x k
 
--- the recorded flow from x to y
-unfoldable pub hasFlow : Memory → ℕ → ℕ → Bool
-hasFlow m x y = cell rowSize (m .words) (flowRow x) y
+  -- "marked", from outside or not
+  unfoldable pub marked : MemoryOf size → ℕ → Bool
+  marked m x = not (eqb (marks (m .bytes) x) 0)
 
--- the recorded read access of the task x to y
-unfoldable pub hasRead : Memory → ℕ → ℕ → Bool
-hasRead m x y = cell rowSize (m .words) (readRow x) y
+  -- the recorded flow from x to y
+  unfoldable pub hasFlow : MemoryOf size → ℕ → ℕ → Bool
+  hasFlow m x y = cell (rowSizeOf size) (m .words) (flowRow x) y
 
--- the recorded write access of the task x to y
-unfoldable pub hasWrite : Memory → ℕ → ℕ → Bool
-hasWrite m x y = cell rowSize (m .words) (writeRow x) y
+  -- the recorded read access of the task x to y
+  unfoldable pub hasRead : MemoryOf size → ℕ → ℕ → Bool
+  hasRead m x y = cell (rowSizeOf size) (m .words) (readRow size x) y
+
+  -- the recorded write access of the task x to y
+  unfoldable pub hasWrite : MemoryOf size → ℕ → ℕ → Bool
+  hasWrite m x y = cell (rowSizeOf size) (m .words) (writeRow size x) y

@@ -2,15 +2,16 @@
 -- Assumes nothing.
 use mathlib.Core.Path.{_≡_}
 use mathlib.Core.Bool.{true, false, false≢true}
-use Prim.Native.Nat.{ℕ, _*_, _≤_, _<_}
+use Prim.Native.Nat.{ℕ, _≤_, _<_}
 use native.Mathlib.Nat.{lt-of-not-le}
 use lib.ListN.{length}
 use borrow.Author.Tests.{eqb-true}
-use Rattle.records.specs.Records.{numbers, recordSize, kind, marks, isTask, isObject}
+use Rattle.rows.specs.Size.{Size, numbersOf}
+use Rattle.records.specs.Records.{kind, marks, isTask, isObject, lentBytes}
 use Rattle.records.specs.RecordLaws.{field-past}
-use Rattle.model.specs.State.{Memory, inUse, task, object, marked}
+use Rattle.model.specs.State.{MemoryOf, inUse, task, object, marked}
 
-module _ (m : Memory) (x : ℕ) where
+module _ {size : Size} (m : MemoryOf size) (x : ℕ) where
   pub task-used : task m x ≡ true → inUse m x ≡ true
   unfolding task isTask inUse
   task-used h = rw (eqb-true (kind (m .bytes) x) 1 h)
@@ -29,11 +30,11 @@ module _ (m : Memory) (x : ℕ) where
   outside-mark h = rw h
 
   -- what is in use, or marked, is one of the numbers
-  module _ (long : length (m .bytes) ≡ recordSize * numbers) where
-    pub used-below : inUse m x ≡ true → x < numbers
+  module _ (long : length (m .bytes) ≡ lentBytes size) where
+    pub used-below : inUse m x ≡ true → x < numbersOf size
     unfolding inUse
-    used-below u = lt-of-not-le (λ (l : numbers ≤ x). false≢true (rw (field-past (m .bytes) x 0 long l) at u))
+    used-below u = lt-of-not-le (λ (l : numbersOf size ≤ x). false≢true (rw (field-past size (m .bytes) x 0 long l) at u))
 
-    pub marked-below : marked m x ≡ true → x < numbers
+    pub marked-below : marked m x ≡ true → x < numbersOf size
     unfolding marked
-    marked-below u = lt-of-not-le (λ (l : numbers ≤ x). false≢true (rw (field-past (m .bytes) x 5 long l) at u))
+    marked-below u = lt-of-not-le (λ (l : numbersOf size ≤ x). false≢true (rw (field-past size (m .bytes) x 5 long l) at u))

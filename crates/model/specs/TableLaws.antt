@@ -8,13 +8,14 @@ use native.Mathlib.Omega.{arith}
 use lib.Dec.{leb}
 use borrow.Author.Tests.{leb-true}
 use Rattle.bits.specs.AllLaws.{and-l, and-r}
+use Rattle.rows.specs.Size.{Size}
 use Rattle.levels.specs.declared.Order.{Order}
 use Rattle.levels.specs.Order.{orderPasses}
-use Rattle.records.specs.Records.{sound}
+use Rattle.records.specs.Records.{soundOf}
 use Rattle.model.specs.Verdicts.{granted, slipped, row-state, row-order, row-number, isDone}
-use Rattle.model.specs.State.{Memory, lengthsFit}
+use Rattle.model.specs.State.{MemoryOf, lengthsFit}
 use Rattle.model.specs.Effects.{effects}
-use Rattle.model.specs.Events.{Test, need, Event, Outcome, unless, firstFailing, verdictOf, outcome, read, write, execute, create, createRoot, move, delete, callTask, invoke, pass, post, find, mark, step}
+use Rattle.model.specs.Events.{Test, need, Event, OutcomeOf, unless, firstFailing, verdictOf, outcome, read, write, execute, create, createRoot, move, delete, callTask, invoke, pass, post, find, mark, step}
 use Rattle.model.specs.Spread.{spread}
 use Rattle.model.specs.Monitor.{refusal, refusedUnless, fitted, started, start, perform}
 use Rattle.model.specs.declared.Call.{Call}
@@ -45,64 +46,64 @@ pub done-tests : (e : Event) → refusals (e .tests) ≡ true → isDone (verdic
 unfolding verdictOf
 done-tests e r h = failing-holds (e .tests) _ r h
 
-pub outcome-done : (m : Memory) (e : Event) → isDone (verdictOf e) ≡ true → outcome m e .memory ≡ effects (e .effects) m
+pub outcome-done : {size : Size} (m : MemoryOf size) (e : Event) → isDone (verdictOf e) ≡ true → outcome m e .memory ≡ effects (e .effects) m
 unfolding outcome
 outcome-done m e h = rw h
 
-pub outcome-refused : (m : Memory) (e : Event) → isDone (outcome m e .verdict) ≡ false → outcome m e .memory ≡ m
+pub outcome-refused : {size : Size} (m : MemoryOf size) (e : Event) → isDone (outcome m e .verdict) ≡ false → outcome m e .memory ≡ m
 unfolding outcome
 outcome-refused m e h = rw h
 
 -- ---- rows 2 and 3
 
 -- a refusal with a row of the table leaves the memory
-guarded-refused : (ok : Bool) (n : ℕ) (m : Memory) (out : Outcome) → (isDone (out .verdict) ≡ false → out .memory ≡ m)
+guarded-refused : {size : Size} (ok : Bool) (n : ℕ) (m : MemoryOf size) (out : OutcomeOf size) → (isDone (out .verdict) ≡ false → out .memory ≡ m)
     → isDone (refusedUnless ok n m out .verdict) ≡ false → refusedUnless ok n m out .memory ≡ m
 unfolding refusedUnless refusal
 guarded-refused true n m out keeps h = keeps h
 guarded-refused false n m out keeps h = refl
 
-guarded-done : (ok : Bool) (n : ℕ) (m : Memory) (out : Outcome) → isDone n ≡ false → isDone (refusedUnless ok n m out .verdict) ≡ true
+guarded-done : {size : Size} (ok : Bool) (n : ℕ) (m : MemoryOf size) (out : OutcomeOf size) → isDone n ≡ false → isDone (refusedUnless ok n m out .verdict) ≡ true
     → (ok ≡ true) × (refusedUnless ok n m out ≡ out)
 unfolding refusedUnless refusal
 guarded-done true n m out r h = (refl, refl)
 guarded-done false n m out r h = absurd (true≢false (sym h ∙ r))
 
 -- what a call that is done shows of what it was lent
-pub record Fitted (o : Order) (m : Memory) (out : Outcome) : Type 0 where
+pub record Fitted {size : Size} (o : Order) (m : MemoryOf size) (out : OutcomeOf size) : Type 0 where
   pub lengths : lengthsFit m ≡ true
-  pub sound-bytes : sound o (m .bytes) ≡ true
+  pub sound-bytes : soundOf size o (m .bytes) ≡ true
   pub passes : orderPasses o ≡ true
   pub inner : fitted o m out ≡ out
 
-pub fitted-done : (o : Order) (m : Memory) (out : Outcome) → isDone (fitted o m out .verdict) ≡ true → Fitted o m out
+pub fitted-done : {size : Size} (o : Order) (m : MemoryOf size) (out : OutcomeOf size) → isDone (fitted o m out .verdict) ≡ true → Fitted o m out
 unfolding fitted
-fitted-done o m out h =
-    let a = guarded-done (lengthsFit m && sound o (m .bytes)) row-state m (refusedUnless (orderPasses o) row-order m out) refl h in
+fitted-done {size} o m out h =
+    let a = guarded-done (lengthsFit m && soundOf size o (m .bytes)) row-state m (refusedUnless (orderPasses o) row-order m out) refl h in
     let b = guarded-done (orderPasses o) row-order m out refl (rw (a .1) at h) in
     record {
-      lengths = and-l (lengthsFit m) (sound o (m .bytes)) (a .0);
-      sound-bytes = and-r (lengthsFit m) (sound o (m .bytes)) (a .0);
+      lengths = and-l (lengthsFit m) (soundOf size o (m .bytes)) (a .0);
+      sound-bytes = and-r (lengthsFit m) (soundOf size o (m .bytes)) (a .0);
       passes = b .0;
       inner = a .1 ∙ b .1;
     }
 
-pub fitted-refused : (o : Order) (m : Memory) (out : Outcome) → (isDone (out .verdict) ≡ false → out .memory ≡ m)
+pub fitted-refused : {size : Size} (o : Order) (m : MemoryOf size) (out : OutcomeOf size) → (isDone (out .verdict) ≡ false → out .memory ≡ m)
     → isDone (fitted o m out .verdict) ≡ false → fitted o m out .memory ≡ m
 unfolding fitted
 fitted-refused o m out keeps = guarded-refused _ row-state m _ (guarded-refused _ row-order m out keeps)
 
 -- an event that is done
-pub record Happened (o : Order) (m : Memory) (e : Event) : Type 0 where
+pub record Happened {size : Size} (o : Order) (m : MemoryOf size) (e : Event) : Type 0 where
   pub lengths : lengthsFit m ≡ true
-  pub sound-bytes : sound o (m .bytes) ≡ true
+  pub sound-bytes : soundOf size o (m .bytes) ≡ true
   pub passes : orderPasses o ≡ true
   pub tests : Holds (e .tests)
   pub leaves : fitted o m (outcome m e) .memory ≡ effects (e .effects) m
 
-pub event-done : (o : Order) (m : Memory) (e : Event) → refusals (e .tests) ≡ true → isDone (fitted o m (outcome m e) .verdict) ≡ true → Happened o m e
+pub event-done : {size : Size} (o : Order) (m : MemoryOf size) (e : Event) → refusals (e .tests) ≡ true → isDone (fitted o m (outcome m e) .verdict) ≡ true → Happened o m e
 unfolding outcome
-event-done o m e r h =
+event-done {size} o m e r h =
     let f = fitted-done o m (outcome m e) h in
     let d : isDone (verdictOf e) ≡ true = rw (f .inner) at h in
     record {
@@ -110,10 +111,10 @@ event-done o m e r h =
       sound-bytes = f .sound-bytes;
       passes = f .passes;
       tests = done-tests e r d;
-      leaves = ap (λ (out : Outcome). out .memory) (f .inner) ∙ outcome-done m e d;
+      leaves = ap (λ (out : OutcomeOf size). out .memory) (f .inner) ∙ outcome-done m e d;
     }
 
-pub start-done : (o : Order) (m : Memory) → isDone (start o m .verdict) ≡ true → (lengthsFit m ≡ true) × (orderPasses o ≡ true) × (start o m ≡ record { verdict = granted; rounds = 0; memory = started o })
+pub start-done : {size : Size} (o : Order) (m : MemoryOf size) → isDone (start o m .verdict) ≡ true → (lengthsFit m ≡ true) × (orderPasses o ≡ true) × (start o m ≡ record { verdict = granted; rounds = 0; memory = started o })
 unfolding start
 start-done o m h =
     let a = guarded-done (lengthsFit m) row-state m _ refl h in
@@ -123,7 +124,7 @@ start-done o m h =
 -- ---- every call
 
 -- what holds of a start, of each event and of a spread holds of every call
-pub by-call : (P : Outcome → Type 0) (o : Order) (m : Memory) → P (start o m) → ((e : Event) → refusals (e .tests) ≡ true → P (fitted o m (outcome m e)))
+pub by-call : {size : Size} (P : OutcomeOf size → Type 0) (o : Order) (m : MemoryOf size) → P (start o m) → ((e : Event) → refusals (e .tests) ≡ true → P (fitted o m (outcome m e)))
     → P (fitted o m (spread m)) → (c : Call) → P (perform o m c)
 unfolding read write execute create createRoot move delete callTask invoke pass post find mark step
 by-call P o m starts happens spreads Start = starts
@@ -143,7 +144,7 @@ by-call P o m starts happens spreads (Mark e) = happens (mark o m e) refl
 by-call P o m starts happens spreads (Step x) = happens (step o m x) refl
 by-call P o m starts happens spreads Spread = spreads
 
-pub refused-keeps : (o : Order) (m : Memory) (c : Call) → isDone (perform o m c .verdict) ≡ false → perform o m c .memory ≡ m
+pub refused-keeps : {size : Size} (o : Order) (m : MemoryOf size) (c : Call) → isDone (perform o m c .verdict) ≡ false → perform o m c .memory ≡ m
 unfolding start spread
 refused-keeps o m c =
     by-call (λ out. isDone (out .verdict) ≡ false → out .memory ≡ m) o m

@@ -1,4 +1,4 @@
--- Document 01's trials P1 to P10, one table of the events as they stand: a state, a call, and the verdict and the flows that must follow. TrialsProved.antt proves them together.
+-- Document 01's trials P1 to P10, one table of the events as they stand, at the size in use: a state, a call, and the verdict and the flows that must follow. TrialsProved.antt proves them together.
 -- Assumes nothing.
 use mathlib.Core.Path.{_≡_}
 use mathlib.Core.Bool.{Bool, false, _&&_, _||_}
@@ -6,9 +6,10 @@ use mathlib.Core.List.{List, [], _∷_, _++_}
 use Prim.Native.Nat.{ℕ, _-_, _<_}
 use lib.Dec.{eqb}
 use lib.ListN.{length, replicate}
+use Rattle.rows.specs.Size.{present, numbers}
 use Rattle.levels.specs.declared.Order.{Order}
 use Rattle.levels.specs.Order.{mostLevels}
-use Rattle.records.specs.Records.{numbers, rootSign, setRecord}
+use Rattle.records.specs.Records.{setRecord, root, containerByte, spareByte}
 use Rattle.model.specs.State.{Memory, memory, hasFlow}
 use Rattle.model.specs.Monitor.{perform, started}
 use Rattle.model.specs.declared.Call.{Call}
@@ -59,11 +60,11 @@ fresh = started Q
 -- task 1 at level 1 with read level r; object 2 at level 2; its driver, task 3, at level l with marks k
 unfoldable pub threeThings : ℕ → ℕ → ℕ → Memory
 threeThings r l k =
-    memory (setRecord (setRecord (setRecord (fresh .bytes) 1 1 1 r 0 0 0) 3 1 l l 0 0 k) 2 2 2 0 3 rootSign 0) (fresh .words)
+    memory (setRecord (setRecord (setRecord (fresh .bytes) 1 1 1 r 0 0 0 0) 3 1 l l 0 0 k 0) 2 2 2 0 3 (containerByte root present) 0 (spareByte root present)) (fresh .words)
 
 -- task 1 at level 1, task 2 at level 2
 unfoldable pub twoTasks : Memory
-twoTasks = memory (setRecord (setRecord (fresh .bytes) 1 1 1 1 0 0 0) 2 1 2 2 0 0 0) (fresh .words)
+twoTasks = memory (setRecord (setRecord (fresh .bytes) 1 1 1 1 0 0 0 0) 2 1 2 2 0 0 0 0) (fresh .words)
 
 abbrev pub trial : Order → Memory → Call → ℕ → List Pair → Trial
 trial o m c v fs = record { order = o; before = m; call = c; verdict = v; flows = fs }

@@ -14,9 +14,10 @@ use Rattle.bits.specs.AllLaws.{and-l, and-r}
 use Rattle.bits.specs.Bit.{bit}
 use Rattle.rows.specs.Rows.{cell, addCell}
 use Rattle.rows.specs.RowLaws.{cell-add, cell-zeros, length-add}
+use Rattle.rows.specs.Size.{rowSize, numbers}
 use Rattle.levels.specs.Order.{atOrBelow, orderPasses, countFits, reflexive, transitive, antisymmetric, belowTop, clearOutside}
-use Rattle.records.specs.Records.{numbers, field, setField, setRecord, isTask, isObject, freeRecord, taskRecord, objectRecord, soundRecord, coreRecord, sound}
-use Rattle.model.specs.State.{rowSize, lengthsFit, inUse, task, object, marked, hasFlow}
+use Rattle.records.specs.Records.{field, setField, setRecord, isTask, isObject, freeRecord, taskRecord, objectRecordOf, soundRecordOf, coreRecord, soundOf}
+use Rattle.model.specs.State.{lengthsFit, inUse, task, object, marked, hasFlow}
 use Rattle.model.specs.Effects.{effect, effects}
 use Rattle.model.specs.Events.{Outcome, unless, firstFailing, verdictOf, outcome, read, invoke}
 use Rattle.model.specs.Monitor.{perform, fitted, refusedUnless, refusal, start, started}
@@ -92,7 +93,7 @@ all-hold (t ∷ ts) h = (holds t (and-l (passes t) (allPass ts) h), all-hold ts 
 
 -- the whole table, computed
 computed : allPass trials ≡ true
-unfolding allPass passes agrees equalUpTo named flowWords allB trials orderOf Q fresh threeThings twoTasks started fitted refusedUnless refusal start lengthsFit sound coreRecord soundRecord freeRecord taskRecord objectRecord isTask isObject field setField setRecord orderPasses countFits reflexive transitive antisymmetric belowTop clearOutside atOrBelow bit outcome verdictOf firstFailing unless read invoke inUse task object marked effects effect addCell
+unfolding allPass passes agrees equalUpTo named flowWords allB trials orderOf Q fresh threeThings twoTasks started fitted refusedUnless refusal start lengthsFit soundOf coreRecord soundRecordOf freeRecord taskRecord objectRecordOf isTask isObject field setField setRecord orderPasses countFits reflexive transitive antisymmetric belowTop clearOutside atOrBelow bit outcome verdictOf firstFailing unless read invoke inUse task object marked effects effect addCell
 computed = refl
 
 pub trials-hold : AllHold trials

@@ -53,7 +53,7 @@ pub struct Tally {
 // A bit for each marked number, and how many ones the words hold.
 #[repr(C)]
 pub struct Report {
-    pub words: [u64; 2],
+    pub words: [u64; rows::ROW_WORDS],
     pub ones: u32,
     pub verdict: u8,
 }
