@@ -10,14 +10,15 @@ use lib.Dec.{eqb}
 use lib.ListN.{length}
 use borrow.Author.Tests.{eqb-true, eqb-false}
 use Rattle.bits.specs.AllLaws.{either}
+use Rattle.rows.specs.Size.{Size, numbersOf}
 use Rattle.levels.specs.declared.Order.{Order}
 use Rattle.records.specs.Records as records
-use Rattle.records.specs.Records.{numbers, field}
-use Rattle.model.specs.State.{Memory, lengthsFit, inUse, task, object, levelOf, driverOf, marked}
+use Rattle.records.specs.Records.{field}
+use Rattle.model.specs.State.{MemoryOf, lengthsFit, inUse, task, object, levelOf, driverOf, marked}
 use Rattle.model.specs.StateLaws.{task-used, used-below}
 use Rattle.model.specs.Effects.{withWords}
 use Rattle.model.specs.EffectLaws.{fit-long}
-use Rattle.containment.specs.Lists.{Standing}
+use Rattle.containment.specs.Lists.{StandingOf}
 use Rattle.containment.specs.Claims.{Covered}
 use Rattle.containment.specs.Tables.{Table, flows, reads, writes, has}
 use Rattle.containment.specs.Invariant.{standing, Bounded, May, Limits, joins}
@@ -25,7 +26,7 @@ use Rattle.containment.specs.Follows.{Same, Follows, same-task, same-use
 
 -- ---- lengths and numbers
 
-fits-same : (m n : Memory) → length (n .bytes) ≡ length (m .bytes) → length (n .words) ≡ length (m .words) → lengthsFit m ≡ true → lengthsFit n ≡ true
+fits-same : {size : Size} (m n : MemoryOf size) → length (n .bytes) ≡ length (m .bytes) → length (n .words) ≡ length (m .words) → lengthsFit m ≡ true → lengthsFit n ≡ true
 unfolding lengthsFit
 fits-same m n b w h = rw (b, w) h
 
@@ -34,8 +35,8 @@ is-number x p = ⊎-elim (λ e. inl (eqb-true x p e)) (λ e. inr (eqb-false x p 
 
 -- ---- words
 
-pub words-limits : (s : Standing) (ws : List ℕ) → Limits s → length ws ≡ length (s .memory .words)
-    → ((t : Table) (x y : ℕ) → x < numbers → y < numbers → has t (withWords (s .memory) ws) x y ≡ true → (has t (s .memory) x y ≡ true) ⊎ May s t x y)
+pub words-limits : {size : Size} (s : StandingOf size) (ws : List ℕ) → Limits s → length ws ≡ length (s .memory .words)
+    → ((t : Table) (x y : ℕ) → x < numbersOf size → y < numbersOf size → has t (withWords (s .memory) ws) x y ≡ true → (has t (s .memory) x y ≡ true) ⊎ May s t x y)
     → Limits (standing (s .order) (withWords (s .memory) ws) (s .outside))
 unfolding task object inUse marked
 words-limits s ws k l each =
@@ -55,7 +56,7 @@ words-limits s ws k l each =
 
 -- ---- the record of one number p that is no task, and is free before or after
 
-module _ (o : Order) (m n : Memory) (ts : List ℕ) (p : ℕ) (k : Limits (standing o m ts)) (no-task : task m p ≡ false)
+module _ {size : Size} (o : Order) (m n : MemoryOf size) (ts : List ℕ) (p : ℕ) (k : Limits (standing o m ts)) (no-task : task m p ≡ false)
     (off : (x f : ℕ) → f < 8 → (x ≡ p → ⊥) → field (n .bytes) x f ≡ field (m .bytes) x f) where
   off-same : (x : ℕ) → (x ≡ p → ⊥) → Same m n x
   off-same x h = record { kind = off x 0 (omega arith) h; level = off x 1 (omega arith) h; read-level = off x 2 (omega arith) h; driver = off x 3 (omega arith) h }
@@ -74,7 +75,7 @@ module _ (o : Order) (m n : Memory) (ts : List ℕ) (p : ℕ) (k : Limits (stand
   task-marked x h = off-marked x (off-task x h)
 
   pub one-follows : (inUse m p ≡ true → inUse n p ≡ true → ⊥)
-      → ((t : Table) (x y : ℕ) → x < numbers → y < numbers → has t n x y ≡ true → (has t m x y ≡ true) × (x ≡ p → ⊥) × (y ≡ p → ⊥)) → Follows o m n ts ts
+      → ((t : Table) (x y : ℕ) → x < numbersOf size → y < numbersOf size → has t n x y ≡ true → (has t m x y ≡ true) × (x ≡ p → ⊥) × (y ≡ p → ⊥)) → Follows o m n ts ts
   one-follows apart old =
       record {
         tasks = task-same;
@@ -90,7 +91,7 @@ module _ (o : Order) (m n : Memory) (ts : List ℕ) (p : ℕ) (k : Limits (stand
   pub one-limits : Follows o m n ts ts → lengthsFit n ≡ true → Bounded (standing o n ts) p → Limits (standing o n ts)
   one-limits f fits here = limits-follow f k fits (λ x l. ⊎-elim (λ (e : x ≡ p). rw e here) (other x l) (is-number x p)) named
     where
-      other : (x : ℕ) → x < numbers → (x ≡ p → ⊥) → Bounded (standing o n ts) x
+      other : (x : ℕ) → x < numbersOf size → (x ≡ p → ⊥) → Bounded (standing o n ts) x
       other x l d =
           let b = k .bounded x l in
           bounded-follows f x (off-same x d) b
@@ -104,9 +105,9 @@ module _ (o : Order) (m n : Memory) (ts : List ℕ) (p : ℕ) (k : Limits (stand
 
 -- ---- marks, and what the limits do not read
 
-module _ (o : Order) (m n : Memory) (ts us : List ℕ) (k : Limits (standing o m ts)) (words : n .words ≡ m .words)
+module _ {size : Size} (o : Order) (m n : MemoryOf size) (ts us : List ℕ) (k : Limits (standing o m ts)) (words : n .words ≡ m .words)
     (kept : (x f : ℕ) → f < 4 → field (n .bytes) x f ≡ field (m .bytes) x f)
-    (grow : (x : ℕ) → x < numbers → marked m x ≡ true → marked n x ≡ true)
+    (grow : (x : ℕ) → x < numbersOf size → marked m x ≡ true → marked n x ≡ true)
     (more : (t : ℕ) → List·Memᴰ t ts → List·Memᴰ t us) where
   kept-same : (x : ℕ) → Same m n x
   kept-same x = record { kind = kept x 0 (omega arith); level = kept x 1 (omega arith); read-level = kept x 2 (omega arith); driver = kept x 3 (omega arith) }
@@ -126,8 +127,8 @@ module _ (o : Order) (m n : Memory) (ts us : List ℕ) (k : Limits (standing o m
 
   -- what is marked is covered, and with a driver its objects are marked
   pub marks-limits : length (n .bytes) ≡ length (m .bytes)
-      → ((x : ℕ) → x < numbers → marked n x ≡ true → Covered (standing o m us) (levelOf m x))
-      → ((x : ℕ) → x < numbers → object m x ≡ true → marked n (driverOf m x) ≡ true → marked n x ≡ true)
+      → ((x : ℕ) → x < numbersOf size → marked n x ≡ true → Covered (standing o m us) (levelOf m x))
+      → ((x : ℕ) → x < numbersOf size → object m x ≡ true → marked n (driverOf m x) ≡ true → marked n x ≡ true)
       → ((t : ℕ) → List·Memᴰ t us → (task m t ≡ true) × (records.marks (n .bytes) t ≡ 3))
       → Limits (standing o n us)
   marks-limits len covers closed named =

@@ -6,29 +6,29 @@ use mathlib.Core.Logic.{inl, ⊎-elim}
 use Prim.Native.Nat.{ℕ, _<_}
 use borrow.Author.Tests.{eqb-true}
 use Rattle.bits.specs.AllLaws.{or-cases, any-at}
+use Rattle.rows.specs.Size.{Size, numbersOf}
 use Rattle.levels.specs.declared.Order.{Order}
 use Rattle.levels.specs.Order.{atOrBelow}
 use Rattle.levels.specs.OrderLaws.{IsOrder}
-use Rattle.records.specs.Records.{numbers}
-use Rattle.model.specs.State.{Memory, inUse, task, levelOf, driverOf, marked, hasFlow, hasRead}
+use Rattle.model.specs.State.{MemoryOf, inUse, task, levelOf, driverOf, marked, hasFlow, hasRead}
 use Rattle.model.specs.StateLaws.{task-used, object-used, used-below}
 use Rattle.model.specs.Effects.{effect}
 use Rattle.model.specs.EffectLaws.{fit-long}
 use Rattle.model.specs.Events.{read, write, callTask, invoke, pass, post, find, fed, step}
 use Rattle.model.specs.TableLaws.{Holds}
-use Rattle.containment.specs.Lists.{Standing}
+use Rattle.containment.specs.Lists.{StandingOf}
 use Rattle.containment.specs.Tables.{flows, reads}
 use Rattle.containment.specs.Invariant.{Ends, Limits, ends-trans, to-marked, under-marked, fed-covered, read-ends}
 use Rattle.containment.specs.Preserve.{AllAllowed}
 
-module _ (s : Standing) (ok : IsOrder (s .order)) (k : Limits s) where
+module _ {size : Size} (s : StandingOf size) (ok : IsOrder (s .order)) (k : Limits s) where
   abbrev o : Order
   o = s .order
 
-  abbrev m : Memory
+  abbrev m : MemoryOf size
   m = s .memory
 
-  below : (x : ℕ) → inUse m x ≡ true → x < numbers
+  below : (x : ℕ) → inUse m x ≡ true → x < numbersOf size
   below x = used-below m x (fit-long m (k .fits) .bytes-long)
 
   pub read-allowed : (e d x : ℕ) → Holds (read o m e d x .tests) → AllAllowed s (read o m e d x .effects)
@@ -117,6 +117,6 @@ module _ (s : Standing) (ok : IsOrder (s .order)) (k : Limits s) where
   unfolding step fed hasFlow
   step-allowed x h =
       let t = simp and-eq-true-iff at (h .1 .0) in
-      let a = any-at numbers (λ y. marked m y && hasFlow m y x) (t .1) in
+      let a = any-at (numbersOf size) (λ y. marked m y && hasFlow m y x) (t .1) in
       let f = simp and-eq-true-iff at (a .2) in
       (fed-covered s ok k (a .0) x (f .0) (k .recorded flows (a .0) x (a .1) (below x (h .0)) (f .1) .2), tt)

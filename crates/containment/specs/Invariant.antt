@@ -7,29 +7,30 @@ use mathlib.Core.List.{List, List·Memᴰ}
 use Prim.Native.Nat.{ℕ, _<_}
 use borrow.Author.Tests.{not-true}
 use Rattle.bits.specs.AllLaws.{or-cases}
+use Rattle.rows.specs.Size.{Size, numbersOf}
 use Rattle.levels.specs.declared.Order.{Order}
 use Rattle.levels.specs.Order.{atOrBelow, orderPasses}
 use Rattle.levels.specs.OrderLaws.{IsOrder}
-use Rattle.records.specs.Records.{numbers, marks, sound}
-use Rattle.model.specs.State.{Memory, lengthsFit, inUse, task, object, levelOf, readLevelOf, driverOf, marked, hasFlow}
+use Rattle.records.specs.Records.{marks, soundOf}
+use Rattle.model.specs.State.{MemoryOf, lengthsFit, inUse, task, object, levelOf, readLevelOf, driverOf, marked, hasFlow}
 use Rattle.model.specs.StateLaws.{task-used, object-used, marked-below}
 use Rattle.model.specs.EffectLaws.{fit-long}
 use Rattle.model.specs.Events.{risky}
 use Rattle.model.specs.RiskLaws.{past-object, past-driver}
-use Rattle.containment.specs.Lists.{Standing}
+use Rattle.containment.specs.Lists.{StandingOf}
 use Rattle.containment.specs.Claims.{Covered, Contained}
 use Rattle.containment.specs.Tables.{Table, flows, reads, writes, has}
 
 -- where a list stands, by its parts
-abbrev pub standing : Order → Memory → List ℕ → Standing
+abbrev pub standing : {size : Size} → Order → MemoryOf size → List ℕ → StandingOf size
 standing o m ts = record { order = o; memory = m; outside = ts }
 
 -- a flow from x to y is within the limits: y is at or below x, or covered
-abbrev pub Ends : Standing → ℕ → ℕ → Type 0
+abbrev pub Ends : {size : Size} → StandingOf size → ℕ → ℕ → Type 0
 Ends s x y = (atOrBelow (s .order) (levelOf (s .memory) y) (levelOf (s .memory) x) ≡ true) ⊎ Covered s (levelOf (s .memory) y)
 
 -- what holds of the record of x
-pub record Bounded (s : Standing) (x : ℕ) : Type 0 where
+pub record Bounded {size : Size} (s : StandingOf size) (x : ℕ) : Type 0 where
   -- an object's driver is a task, at or above it
   pub driver-task : object (s .memory) x ≡ true → task (s .memory) (driverOf (s .memory) x) ≡ true
   pub driver-above : object (s .memory) x ≡ true → atOrBelow (s .order) (levelOf (s .memory) x) (levelOf (s .memory) (driverOf (s .memory) x)) ≡ true
@@ -38,7 +39,7 @@ pub record Bounded (s : Standing) (x : ℕ) : Type 0 where
   pub mark-covered : marked (s .memory) x ≡ true → Covered s (levelOf (s .memory) x)
 
 -- the read access of z to x passed the path test, and the honest test unless x's driver is marked
-pub record MayRead (s : Standing) (z x : ℕ) : Type 0 where
+pub record MayRead {size : Size} (s : StandingOf size) (z x : ℕ) : Type 0 where
   pub reader : task (s .memory) z ≡ true
   pub source : object (s .memory) x ≡ true
   pub path : (atOrBelow (s .order) (levelOf (s .memory) z) (levelOf (s .memory) (driverOf (s .memory) x))
@@ -47,44 +48,45 @@ pub record MayRead (s : Standing) (z x : ℕ) : Type 0 where
       || atOrBelow (s .order) (readLevelOf (s .memory) z) (levelOf (s .memory) x)
       || marked (s .memory) (driverOf (s .memory) x)) ≡ true
 
--- a recorded flow joins things in use, within the limits
-abbrev pub MayFlow : Standing → ℕ → ℕ → Type 0
-MayFlow s x y = (inUse (s .memory) x ≡ true) × (inUse (s .memory) y ≡ true) × Ends s x y
+module _ {size : Size} where
+  -- a recorded flow joins things in use, within the limits
+  abbrev pub MayFlow : StandingOf size → ℕ → ℕ → Type 0
+  MayFlow s x y = (inUse (s .memory) x ≡ true) × (inUse (s .memory) y ≡ true) × Ends s x y
 
--- both are in use
-abbrev pub Joined : Memory → ℕ → ℕ → Type 0
-Joined m x y = (inUse m x ≡ true) × (inUse m y ≡ true)
+  -- both are in use
+  abbrev pub Joined : MemoryOf size → ℕ → ℕ → Type 0
+  Joined m x y = (inUse m x ≡ true) × (inUse m y ≡ true)
 
--- what the limits ask of what is recorded: of a write access only that it joins things in use
-abbrev pub May : Standing → Table → ℕ → ℕ → Type 0
-May s flows x y = MayFlow s x y
-May s reads z x = MayRead s z x
-May s writes z x = Joined (s .memory) z x
+  -- what the limits ask of what is recorded: of a write access only that it joins things in use
+  abbrev pub May : StandingOf size → Table → ℕ → ℕ → Type 0
+  May s flows x y = MayFlow s x y
+  May s reads z x = MayRead s z x
+  May s writes z x = Joined (s .memory) z x
 
-pub may-join : (s : Standing) (t : Table) (x y : ℕ) → May s t x y → Joined (s .memory) x y
-may-join s flows x y a = (a .0, a .1)
-may-join s reads z x a = (task-used (s .memory) z (a .reader), object-used (s .memory) x (a .source))
-may-join s writes z x a = a
+  pub may-join : (s : StandingOf size) (t : Table) (x y : ℕ) → May s t x y → Joined (s .memory) x y
+  may-join s flows x y a = (a .0, a .1)
+  may-join s reads z x a = (task-used (s .memory) z (a .reader), object-used (s .memory) x (a .source))
+  may-join s writes z x a = a
 
 -- what the effects keep, under an order that passes
-pub record Limits (s : Standing) : Type 0 where
+pub record Limits {size : Size} (s : StandingOf size) : Type 0 where
   pub fits : lengthsFit (s .memory) ≡ true
-  pub bounded : (x : ℕ) → x < numbers → Bounded s x
+  pub bounded : (x : ℕ) → x < numbersOf size → Bounded s x
   -- a task that a granted mark named stays marked from outside
   pub named : (t : ℕ) → List·Memᴰ t (s .outside) → (task (s .memory) t ≡ true) × (marks (s .memory .bytes) t ≡ 3)
-  pub recorded : (t : Table) (x y : ℕ) → x < numbers → y < numbers → has t (s .memory) x y ≡ true → May s t x y
+  pub recorded : (t : Table) (x y : ℕ) → x < numbersOf size → y < numbersOf size → has t (s .memory) x y ≡ true → May s t x y
 
 -- so whatever is recorded joins things in use
-pub joins : {s : Standing} → Limits s → (t : Table) (x y : ℕ) → x < numbers → y < numbers → has t (s .memory) x y ≡ true → Joined (s .memory) x y
-joins {s} k t x y a b h = may-join s t x y (k .recorded t x y a b h)
+pub joins : {size : Size} {s : StandingOf size} → Limits s → (t : Table) (x y : ℕ) → x < numbersOf size → y < numbersOf size → has t (s .memory) x y ≡ true → Joined (s .memory) x y
+joins {s = s} k t x y a b h = may-join s t x y (k .recorded t x y a b h)
 
-pub record Invariant (s : Standing) : Type 0 where
+pub record Invariant {size : Size} (s : StandingOf size) : Type 0 where
   pub passes : orderPasses (s .order) ≡ true
-  pub is-sound : sound (s .order) (s .memory .bytes) ≡ true
+  pub is-sound : soundOf size (s .order) (s .memory .bytes) ≡ true
   pub limits : Limits s
 
 -- demand 3 is a part of it
-pub contained : (s : Standing) → Limits s → Contained s
+pub contained : {size : Size} (s : StandingOf size) → Limits s → Contained s
 unfolding hasFlow
 contained s k =
     record {
@@ -95,7 +97,7 @@ contained s k =
 
 -- ---- how the limits follow from one another
 
-module _ (s : Standing) (ok : IsOrder (s .order)) where
+module _ {size : Size} (s : StandingOf size) (ok : IsOrder (s .order)) where
   -- what is at or below a covered level is covered
   pub covered-below : (a b : ℕ) → atOrBelow (s .order) a b ≡ true → Covered s b → Covered s a
   covered-below a b h c = (c .0, c .1, c .2, ok .trans a b (levelOf (s .memory) (c .0)) h (c .3))
@@ -128,7 +130,7 @@ module _ (s : Standing) (ok : IsOrder (s .order)) where
         o : Order
         o = s .order
 
-        m : Memory
+        m : MemoryOf size
         m = s .memory
 
         safe : risky o m z x ≡ false → Ends s x z

@@ -4,22 +4,23 @@ use mathlib.Core.Path.{_≡_, refl, sym, subst, _∙_}
 use mathlib.Core.Bool.{true, true≢false}
 use mathlib.Core.Logic.{_⊎_, ⊎-elim}
 use mathlib.Core.List.{List, [], _∷_, List·Memᴰ·not-nil}
-use Prim.Native.Nat.{ℕ, _*_, _<_}
+use Prim.Native.Nat.{ℕ, _<_}
 use native.Mathlib.Omega.{arith}
 use lib.ListN.{length, replicate, length-replicate}
 use borrow.Author.Tests.{eq-eqb, eqb-true}
 use Rattle.bits.specs.AllLaws.{either, and-i}
-use Rattle.rows.specs.RowLaws.{cell-zeros}
+use Rattle.rows.specs.RowLaws.{cell-zeros, some-number}
+use Rattle.rows.specs.Size.{Size, rowSizeOf, numbersOf, lentWords}
 use Rattle.levels.specs.declared.Order.{Order}
 use Rattle.levels.specs.Order.{atOrBelow}
 use Rattle.levels.specs.OrderLaws.{IsOrder, is-order}
-use Rattle.records.specs.Records.{numbers, recordSize, field, isTask, isObject, sound}
+use Rattle.records.specs.Records.{field, isTask, isObject, soundOf, lentBytes}
 use Rattle.records.specs.RecordLaws.{task-facts}
 use Rattle.records.specs.KeepLaws.{field-zero}
 use Rattle.model.specs.declared.Call.{Call}
 use Rattle.model.specs.declared.Call.the-variants.{Start, Read, Write, Execute, Create, CreateRoot, Move, Delete, CallTask, Invoke, Pass, Post, Find, Mark, Step, Spread}
 use Rattle.model.specs.Verdicts.{isDone}
-use Rattle.model.specs.State.{Memory, memory, rowSize, tables, lengthsFit, inUse, task, object, levelOf, driverOf, marked, hasFlow}
+use Rattle.model.specs.State.{MemoryOf, lengthsFit, inUse, task, object, levelOf, driverOf, marked, hasFlow}
 use Rattle.model.specs.StateLaws.{outside-mark}
 use Rattle.model.specs.EffectLaws.{fit-long}
 use Rattle.model.specs.Effects.{make-task, effect, effects}
@@ -29,7 +30,7 @@ use Rattle.model.specs.Monitor.{fitted, started, perform}
 use Rattle.model.specs.MarkLaws.{MoreMarks, kept-marked, kept-object, kept-driver}
 use Rattle.model.specs.SpreadLaws.{Closed, rest-closed, sized-more, spread-more, spread-only, spread-rests}
 use Rattle.model.specs.TableLaws.{Holds, refusals, event-done, fitted-done, start-done, refused-keeps}
-use Rattle.containment.specs.Lists.{Item, asks, reports, Standing, Role, starting, marking, other, role, entered, next, run, Admitted, Admissible}
+use Rattle.containment.specs.Lists.{Item, asks, reports, StandingOf, Role, starting, marking, other, role, entered, next, run, Admitted, Admissible}
 use Rattle.containment.specs.Claims.{Covered}
 use Rattle.containment.specs.Soundness.{leaves-sound}
 use Rattle.containment.specs.Tables.{flows, row}
@@ -41,55 +42,55 @@ use Rattle.containment.specs.RecordEvents.{execute-allowed, create-allow
 
 -- ---- a start makes a task in an empty memory
 
-empty : Memory
-empty = memory (replicate (recordSize * numbers) 0) (replicate (rowSize * (numbers * tables)) 0)
+empty : (size : Size) → MemoryOf size
+empty size = record { bytes = replicate (lentBytes size) 0; words = replicate (lentWords size) 0 }
 
-empty-limits : (o : Order) → Limits (standing o empty [])
+empty-limits : (size : Size) (o : Order) → Limits (standing o (empty size) [])
 unfolding lengthsFit object isObject marked empty
-empty-limits o =
+empty-limits size o =
     record {
-      fits = and-i (eq-eqb _ _ (length-replicate {A = ℕ} (recordSize * numbers) 0)) (eq-eqb _ _ (length-replicate {A = ℕ} (rowSize * (numbers * tables)) 0));
-      bounded = λ x l. bounded-none (standing o empty []) x (rw (field-zero _ x 0)) (rw (field-zero _ x 5));
+      fits = and-i (eq-eqb _ _ (length-replicate {A = ℕ} (lentBytes size) 0)) (eq-eqb _ _ (length-replicate {A = ℕ} (lentWords size) 0));
+      bounded = λ x l. bounded-none (standing o (empty size) []) x (rw (field-zero _ x 0)) (rw (field-zero _ x 5));
       named = λ t h. absurd (List·Memᴰ·not-nil h);
-      recorded = λ t x y a b h. absurd (true≢false (sym h ∙ cell-zeros rowSize (rowSize * (numbers * tables)) (row t x) y));
+      recorded = λ t x y a b h. absurd (true≢false (sym h ∙ cell-zeros (rowSizeOf size) (lentWords size) (row size t x) y));
     }
 
-started-limits : (o : Order) → IsOrder o → Limits (standing o (started o) [])
+started-limits : (size : Size) (o : Order) → IsOrder o → Limits (standing o (started {size = size} o) [])
 unfolding started effect empty inUse
-started-limits o ok = effect-keeps (standing o empty []) ok (empty-limits o) (make-task 0 (o .top) (o .top)) (omega arith, rw (field-zero _ 0 0))
+started-limits size o ok = effect-keeps (standing o (empty size) []) ok (empty-limits size o) (make-task 0 (o .top) (o .top)) (some-number size, rw (field-zero _ 0 0))
 
-pub start-keeps : (o : Order) (m : Memory) → isDone (perform o m Start .verdict) ≡ true → Invariant (standing o (perform o m Start .memory) [])
-start-keeps o m h =
+pub start-keeps : {size : Size} (o : Order) (m : MemoryOf size) → isDone (perform o m Start .verdict) ≡ true → Invariant (standing o (perform o m Start .memory) [])
+start-keeps {size} o m h =
     let d = start-done o m h in
-    record { passes = d .1; is-sound = leaves-sound o m Start h .1; limits = rw (d .2) (started-limits o (is-order o (d .1))) }
+    record { passes = d .1; is-sound = leaves-sound size o m Start h .1; limits = rw (d .2) (started-limits size o (is-order o (d .1))) }
 
 -- ---- a spread marks only what is covered, and rests with every driver's objects marked
 
-spread-limits : (s : Standing) → IsOrder (s .order) → Limits s → Limits (standing (s .order) (spread (s .memory) .memory) (s .outside))
+spread-limits : {size : Size} (s : StandingOf size) → IsOrder (s .order) → Limits s → Limits (standing (s .order) (spread (s .memory) .memory) (s .outside))
 unfolding hasFlow
-spread-limits s ok k =
+spread-limits {size} s ok k =
     marks-limits (s .order) m n (s .outside) (s .outside) k (g .words-kept) kept (λ x l. kept-marked g x) (λ t h. h) (g .length-kept)
     (λ x l h. spread-only Q m closed sized (λ y a b. (a, k .bounded y a .mark-covered b)) x l h .1)
     (λ x l h d. rest-closed n (sized-more g sized) (spread-rests m sized) .by-driver (driverOf m x) x d l (kept-object g x ∙ h) (kept-driver g x))
     (λ t h. let j = k .named t h in (j .0, g .marks-kept t (outside-mark m t (j .1)) ∙ j .1))
   where
-    m : Memory
+    m : MemoryOf size
     m = s .memory
 
-    n : Memory
+    n : MemoryOf size
     n = spread m .memory
 
     g : MoreMarks m n
     g = spread-more m
 
-    sized : length (m .bytes) ≡ recordSize * numbers
+    sized : length (m .bytes) ≡ lentBytes size
     sized = fit-long m (k .fits) .bytes-long
 
     kept : (x f : ℕ) → f < 4 → field (n .bytes) x f ≡ field (m .bytes) x f
     kept x f l = g .bytes-kept x f (omega arith) (omega arith)
 
     Q : ℕ → Type 0
-    Q x = (x < numbers) × Covered s (levelOf m x)
+    Q x = (x < numbersOf size) × Covered s (levelOf m x)
 
     closed : Closed m Q
     closed =
@@ -101,16 +102,16 @@ spread-limits s ok k =
 -- ---- a call that is done
 
 -- a sound task's level is in the order
-task-self : (s : Standing) → Invariant s → (e : ℕ) → task (s .memory) e ≡ true → atOrBelow (s .order) (levelOf (s .memory) e) (levelOf (s .memory) e) ≡ true
+task-self : {size : Size} (s : StandingOf size) → Invariant s → (e : ℕ) → task (s .memory) e ≡ true → atOrBelow (s .order) (levelOf (s .memory) e) (levelOf (s .memory) e) ≡ true
 unfolding task isTask
-task-self s i e t = is-order (s .order) (i .passes) .self _ (task-facts (s .order) (s .memory .bytes) (i .is-sound) e (eqb-true _ 1 t) .level-in)
+task-self {size} s i e t = is-order (s .order) (i .passes) .self _ (task-facts size (s .order) (s .memory .bytes) (i .is-sound) e (eqb-true _ 1 t) .level-in)
 
 abbrev NoStart : Role → Type 0
 NoStart starting = ⊥
 NoStart (marking e) = Unit {0}
 NoStart other = Unit {0}
 
-module _ (s : Standing) (i : Invariant s) (o : Order) where
+module _ {size : Size} (s : StandingOf size) (i : Invariant s) (o : Order) where
   ok : IsOrder (s .order)
   ok = is-order (s .order) (i .passes)
 
@@ -119,7 +120,7 @@ module _ (s : Standing) (i : Invariant s) (o : Order) where
   same-order r n a d = ⊎-elim (λ e. absurd (subst NoStart e n)) (λ f. f d) a
 
   -- what such a call leaves, under that order
-  later : (m : Memory) (ts : List ℕ) → o ≡ s .order → sound o (m .bytes) ≡ true → Limits (standing (s .order) m ts) → Invariant (standing (s .order) m ts)
+  later : (m : MemoryOf size) (ts : List ℕ) → o ≡ s .order → soundOf size o (m .bytes) ≡ true → Limits (standing (s .order) m ts) → Invariant (standing (s .order) m ts)
   later m ts q l k = record { passes = i .passes; is-sound = rw q at l; limits = k }
 
   -- an event whose tests allow its effects
@@ -127,7 +128,7 @@ module _ (s : Standing) (i : Invariant s) (o : Order) where
       → (other ≡ starting) ⊎ (isDone (fitted o (s .memory) (outcome (s .memory) (e o)) .verdict) ≡ true → o ≡ s .order)
       → (Holds (e (s .order) .tests) → AllAllowed s (e (s .order) .effects))
       → isDone (fitted o (s .memory) (outcome (s .memory) (e o)) .verdict) ≡ true
-      → sound o (fitted o (s .memory) (outcome (s .memory) (e o)) .memory .bytes) ≡ true
+      → soundOf size o (fitted o (s .memory) (outcome (s .memory) (e o)) .memory .bytes) ≡ true
       → Invariant (standing (s .order) (fitted o (s .memory) (outcome (s .memory) (e o)) .memory) (s .outside))
   event-keeps e r a allowed h l =
       let q = same-order other tt a h in
@@ -135,7 +136,7 @@ module _ (s : Standing) (i : Invariant s) (o : Order) where
       let f = subst (λ (p : Order). Holds (e p .tests) → AllAllowed s (e p .effects)) (sym q) allowed in
       later _ (s .outside) q l (rw (d .leaves) (effects-keep s ok (i .limits) (e o .effects) (f (d .tests))))
 
-  done-keeps : (c : Call) → Admitted (asks o c) s → isDone (perform o (s .memory) c .verdict) ≡ true → sound o (perform o (s .memory) c .memory .bytes) ≡ true
+  done-keeps : (c : Call) → Admitted (asks o c) s → isDone (perform o (s .memory) c .verdict) ≡ true → soundOf size o (perform o (s .memory) c .memory .bytes) ≡ true
       → Invariant (entered (role c) o (perform o (s .memory) c .memory) s)
   unfolding entered read write execute create createRoot move delete callTask invoke pass post find mark step effects
   done-keeps Start a h l = start-keeps o (s .memory) h
@@ -161,14 +162,14 @@ module _ (s : Standing) (i : Invariant s) (o : Order) where
 
 -- ---- every item, and every list
 
-next-keeps : (x : Item) (s : Standing) → Invariant s → Admitted x s → Invariant (next x s)
+next-keeps : {size : Size} (x : Item) (s : StandingOf size) → Invariant s → Admitted x s → Invariant (next x s)
 unfolding next
-next-keeps (asks o c) s i a =
-    ⊎-elim (λ h. rw h (done-keeps s i o c a h (leaves-sound o (s .memory) c h .1))) (λ h. rw h (rw (refused-keeps o (s .memory) c h) i))
+next-keeps {size} (asks o c) s i a =
+    ⊎-elim (λ h. rw h (done-keeps s i o c a h (leaves-sound size o (s .memory) c h .1))) (λ h. rw h (rw (refused-keeps o (s .memory) c h) i))
     (either (isDone (perform o (s .memory) c .verdict)))
 next-keeps (reports o) s i a = i
 
-pub run-keeps : (is : List Item) (s : Standing) → Invariant s → Admissible is s → Invariant (run is s)
+pub run-keeps : {size : Size} (is : List Item) (s : StandingOf size) → Invariant s → Admissible is s → Invariant (run is s)
 unfolding run
 run-keeps [] s i a = i
 run-keeps (x ∷ is) s i a = run-keeps is (next x s) (next-keeps x s i (a .0)) (a .1)

@@ -5,11 +5,12 @@ use mathlib.Core.Bool.{true, cond}
 use mathlib.Core.Logic.{_⊎_}
 use mathlib.Core.List.{List, [], _∷_}
 use Prim.Native.Nat.{ℕ}
+use Rattle.rows.specs.Size.{Size, present}
 use Rattle.levels.specs.declared.Order.{Order}
 use Rattle.model.specs.declared.Call.{Call}
 use Rattle.model.specs.declared.Call.the-variants.{Start, Read, Write, Execute, Create, CreateRoot, Move, Delete, CallTask, Invoke, Pass, Post, Find, Mark, Step, Spread}
 use Rattle.model.specs.Verdicts.{isDone}
-use Rattle.model.specs.State.{Memory}
+use Rattle.model.specs.State.{MemoryOf}
 use Rattle.model.specs.Monitor.{perform}
 
 -- a call, or a report, with the order that it is lent
@@ -23,10 +24,14 @@ lent (asks o c) = o
 lent (reports o) = o
 
 -- where a list stands: the order of the last granted start, the memory left, and the tasks that a granted mark has named since that start
-pub record Standing : Type 0 where
+pub record StandingOf (size : Size) : Type 0 where
   pub order : Order
-  pub memory : Memory
+  pub memory : MemoryOf size
   pub outside : List ℕ
+
+-- at the size in use
+abbrev pub Standing : Type 0
+Standing = StandingOf present
 
 -- what a call means for that, if it is granted
 pub data Role : Type 0 where
@@ -52,33 +57,36 @@ role (Mark e) = marking e
 role (Step x) = other
 role Spread = other
 
--- after a call of that role that was granted or slipped
-unfoldable pub entered : Role → Order → Memory → Standing → Standing
-entered starting o m s = record { order = o; memory = m; outside = [] }
-entered (marking e) o m s = record { order = s .order; memory = m; outside = e ∷ s .outside }
-entered other o m s = record { order = s .order; memory = m; outside = s .outside }
+-- ---- on a state of either size
 
--- a refused call, and a report, leave all as it was
-unfoldable pub next : Item → Standing → Standing
-next (asks o c) s =
-    cond (isDone (perform o (s .memory) c .verdict))
-    (entered (role c) o (perform o (s .memory) c .memory) s)
-    (record { order = s .order; memory = perform o (s .memory) c .memory; outside = s .outside })
-next (reports o) s = s
+module _ {size : Size} where
+  -- after a call of that role that was granted or slipped
+  unfoldable pub entered : Role → Order → MemoryOf size → StandingOf size → StandingOf size
+  entered starting o m s = record { order = o; memory = m; outside = [] }
+  entered (marking e) o m s = record { order = s .order; memory = m; outside = e ∷ s .outside }
+  entered other o m s = record { order = s .order; memory = m; outside = s .outside }
 
-unfoldable pub run : List Item → Standing → Standing
-run [] s = s
-run (i ∷ is) s = run is (next i s)
+  -- a refused call, and a report, leave all as it was
+  unfoldable pub next : Item → StandingOf size → StandingOf size
+  next (asks o c) s =
+      cond (isDone (perform o (s .memory) c .verdict))
+      (entered (role c) o (perform o (s .memory) c .memory) s)
+      (record { order = s .order; memory = perform o (s .memory) c .memory; outside = s .outside })
+  next (reports o) s = s
 
--- a call granted or slipped, but for a start, has the last granted start's order; a refused one may have any, and so may a report
-abbrev pub Admitted : Item → Standing → Type 0
-Admitted (asks o c) s = (role c ≡ starting) ⊎ (isDone (perform o (s .memory) c .verdict) ≡ true → o ≡ s .order)
-Admitted (reports o) s = Unit {0}
+  unfoldable pub run : List Item → StandingOf size → StandingOf size
+  run [] s = s
+  run (i ∷ is) s = run is (next i s)
 
-abbrev pub Admissible : List Item → Standing → Type 0
-Admissible [] s = Unit {0}
-Admissible (i ∷ is) s = Admitted i s × Admissible is (next i s)
+  -- a call granted or slipped, but for a start, has the last granted start's order; a refused one may have any, and so may a report
+  abbrev pub Admitted : Item → StandingOf size → Type 0
+  Admitted (asks o c) s = (role c ≡ starting) ⊎ (isDone (perform o (s .memory) c .verdict) ≡ true → o ≡ s .order)
+  Admitted (reports o) s = Unit {0}
 
--- where a list stands after the start that begins it, whatever the memory held
-unfoldable pub begun : Order → Memory → Standing
-begun o m = record { order = o; memory = perform o m Start .memory; outside = [] }
+  abbrev pub Admissible : List Item → StandingOf size → Type 0
+  Admissible [] s = Unit {0}
+  Admissible (i ∷ is) s = Admitted i s × Admissible is (next i s)
+
+  -- where a list stands after the start that begins it, whatever the memory held
+  unfoldable pub begun : Order → MemoryOf size → StandingOf size
+  begun o m = record { order = o; memory = perform o m Start .memory; outside = [] }

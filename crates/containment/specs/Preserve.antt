@@ -11,82 +11,84 @@ use native.Mathlib.Omega.{arith}
 use Rattle.bits.specs.AllLaws.{or-cases, or-l, or-r, and-i, not-so}
 use Rattle.rows.specs.Rows.{addCell}
 use Rattle.rows.specs.RowLaws.{length-add}
+use Rattle.rows.specs.Size.{Size, rowSizeOf, numbersOf}
 use Rattle.levels.specs.declared.Order.{Order}
 use Rattle.levels.specs.Order.{atOrBelow}
 use Rattle.levels.specs.OrderLaws.{IsOrder}
 use Rattle.records.specs.Records as records
-use Rattle.records.specs.Records.{numbers, field}
-use Rattle.model.specs.State.{Memory, rowSize, inUse, task, object, levelOf, driverOf, marked}
+use Rattle.records.specs.Records.{field, Place}
+use Rattle.model.specs.State.{MemoryOf, inUse, task, object, levelOf, driverOf, marked}
 use Rattle.model.specs.StateLaws.{task-used, object-used, object-task, outside-mark, used-below}
 use Rattle.model.specs.Effects.{Effect, flow, flow-if, read-access, write-access, make-task, make-object, move-to, clear, mark-outside, mark-thing, objectOf, withWords, effect, effects}
 use Rattle.model.specs.MarkLaws.{where-words, where-field, where-kept}
 use Rattle.model.specs.EffectLaws.{Long, fit-long, long-fits, effect-long, effect-bytes, byte-after, inUse-after, object-after, level-after, driver-after, marks-after, marked-after, outside-marks, outside-marked, thing-marked}
-use Rattle.containment.specs.Lists.{Standing}
+use Rattle.containment.specs.Lists.{StandingOf}
 use Rattle.containment.specs.Claims.{Covered}
 use Rattle.containment.specs.Tables.{Table, flows, reads, writes, row, has, has-added, has-clear}
 use Rattle.containment.specs.Invariant.{standing, Bounded, May, may-join, Limits, joins, covered-below}
 use Rattle.containment.specs.Follows.{Same, Follows, same-task, covered-follows}
 use Rattle.containment.specs.Changes.{words-limits, one-follows, one-limits, marks-follow, marks-limits}
 
-abbrev pub after : Standing → Effect → Standing
+abbrev pub after : {size : Size} → StandingOf size → Effect → StandingOf size
 after s e = standing (s .order) (effect e (s .memory)) (s .outside)
 
 -- a free number may become an object of the task d, at or below it and marked like it
-pub record MayMake (s : Standing) (n l d : ℕ) (b : Bool) : Type 0 where
-  pub below : n < numbers
+pub record MayMake {size : Size} (s : StandingOf size) (n l d : ℕ) (b : Bool) : Type 0 where
+  pub below : n < numbersOf size
   pub free : inUse (s .memory) n ≡ false
   pub driver : task (s .memory) d ≡ true
   pub above : atOrBelow (s .order) l (levelOf (s .memory) d) ≡ true
   pub mark : b ≡ marked (s .memory) d
 
--- what the limits ask of an effect; marking from outside names one more task, and stands apart
-abbrev pub Allowed : Standing → Effect → Type 0
-Allowed s (flow x y) = May s flows x y
-Allowed s (flow-if b x y) = b ≡ true → May s flows x y
-Allowed s (read-access z x) = May s reads z x
-Allowed s (write-access z x) = May s writes z x
-Allowed s (make-task n l r) = (n < numbers) × (inUse (s .memory) n ≡ false)
-Allowed s (make-object n l d c b) = MayMake s n l d b
-Allowed s (move-to x c) = object (s .memory) x ≡ true
-Allowed s (clear x) = object (s .memory) x ≡ true
-Allowed s (mark-outside e) = ⊥
-Allowed s (mark-thing x) = Covered s (levelOf (s .memory) x)
+module _ {size : Size} where
+  -- what the limits ask of an effect; marking from outside names one more task, and stands apart
+  abbrev pub Allowed : StandingOf size → Effect → Type 0
+  Allowed s (flow x y) = May s flows x y
+  Allowed s (flow-if b x y) = b ≡ true → May s flows x y
+  Allowed s (read-access z x) = May s reads z x
+  Allowed s (write-access z x) = May s writes z x
+  Allowed s (make-task n l r) = (n < numbersOf size) × (inUse (s .memory) n ≡ false)
+  Allowed s (make-object n l d p b) = MayMake s n l d b
+  Allowed s (move-to x c) = object (s .memory) x ≡ true
+  Allowed s (clear x) = object (s .memory) x ≡ true
+  Allowed s (mark-outside e) = ⊥
+  Allowed s (mark-thing x) = Covered s (levelOf (s .memory) x)
 
-abbrev pub AllAllowed : Standing → List Effect → Type 0
-AllAllowed s [] = Unit {0}
-AllAllowed s (e ∷ es) = Allowed s e × AllAllowed (after s e) es
+  abbrev pub AllAllowed : StandingOf size → List Effect → Type 0
+  AllAllowed s [] = Unit {0}
+  AllAllowed s (e ∷ es) = Allowed s e × AllAllowed (after s e) es
 
--- a record that is no object and has no mark
-pub bounded-none : (s : Standing) (x : ℕ) → object (s .memory) x ≡ false → marked (s .memory) x ≡ false → Bounded s x
-bounded-none s x no-object no-mark =
-    record {
-      driver-task = λ h. absurd (true≢false (sym h ∙ no-object));
-      driver-above = λ h. absurd (true≢false (sym h ∙ no-object));
-      driven-marked = λ h. absurd (true≢false (sym h ∙ no-object));
-      mark-covered = λ h. absurd (true≢false (sym h ∙ no-mark));
-    }
+  -- a record that is no object and has no mark
+  pub bounded-none : (s : StandingOf size) (x : ℕ) → object (s .memory) x ≡ false → marked (s .memory) x ≡ false → Bounded s x
+  bounded-none s x no-object no-mark =
+      record {
+        driver-task = λ h. absurd (true≢false (sym h ∙ no-object));
+        driver-above = λ h. absurd (true≢false (sym h ∙ no-object));
+        driven-marked = λ h. absurd (true≢false (sym h ∙ no-object));
+        mark-covered = λ h. absurd (true≢false (sym h ∙ no-mark));
+      }
 
-module _ (s : Standing) (ok : IsOrder (s .order)) (k : Limits s) where
+module _ {size : Size} (s : StandingOf size) (ok : IsOrder (s .order)) (k : Limits s) where
   abbrev o : Order
   o = s .order
 
-  abbrev m : Memory
+  abbrev m : MemoryOf size
   m = s .memory
 
   long : Long m
   long = fit-long m (k .fits)
 
-  below : (x : ℕ) → inUse m x ≡ true → x < numbers
+  below : (x : ℕ) → inUse m x ≡ true → x < numbersOf size
   below x = used-below m x (long .bytes-long)
 
   -- ---- a flow or an access is recorded
 
-  record-keeps : (t : Table) (x y : ℕ) → May s t x y → Limits (standing o (withWords m (addCell rowSize (m .words) (row t x) y)) (s .outside))
+  record-keeps : (t : Table) (x y : ℕ) → May s t x y → Limits (standing o (withWords m (addCell (rowSizeOf size) (m .words) (row size t x) y)) (s .outside))
   record-keeps t x y a =
       let u = may-join s t x y a in
-      words-limits s _ k (length-add rowSize (m .words) (row t x) y)
+      words-limits s _ k (length-add (rowSizeOf size) (m .words) (row size t x) y)
       (λ i v w lv lw h. ⊎-elim (λ e. inl e) (λ (e : (i ≡ t) × (v ≡ x) × (w ≡ y)). inr (rw (e .0, e .1, e .2) a))
-      (has-added t x y m long (below x (u .0)) (below y (u .1)) i v w lv lw h))
+      (has-added m long v w lv lw x y (below x (u .0)) (below y (u .1)) i t h))
 
   -- ---- a free number becomes a task or an object
 
@@ -108,7 +110,7 @@ module _ (s : Standing) (ok : IsOrder (s .order)) (k : Limits s) where
     made-keeps : Follows o m (effect e m) (s .outside) (s .outside) → Bounded (after s e) n → Limits (after s e)
     made-keeps f here = one-limits o m (effect e m) (s .outside) n k free-task off f (long-fits (effect-long e long)) here
 
-  module _ (n l r : ℕ) (a : n < numbers) (free : inUse m n ≡ false) where
+  module _ (n l r : ℕ) (a : n < numbersOf size) (free : inUse m n ≡ false) where
     task-off : (x f : ℕ) → f < 8 → (x ≡ n → ⊥) → field (effect (make-task n l r) m .bytes) x f ≡ field (m .bytes) x f
     task-off x f lf h = byte-after (λ b. b) x f lf (make-task n l r) m long a tt ∙ rw (ne-eqb x n h)
 
@@ -123,9 +125,9 @@ module _ (s : Standing) (ok : IsOrder (s .order)) (k : Limits s) where
         (object-after n (make-task n l r) m long a ∙ rw (eq-eqb n n refl))
         (marked-after n (make-task n l r) m long (a, tt) ∙ rw (eq-eqb n n refl)))
 
-  module _ (n l d c : ℕ) (b : Bool) (a : MayMake s n l d b) where
+  module _ (n l d : ℕ) (p : Place) (b : Bool) (a : MayMake s n l d b) where
     abbrev making : Effect
-    making = make-object n l d c b
+    making = make-object n l d p b
 
     object-off : (x f : ℕ) → f < 8 → (x ≡ n → ⊥) → field (effect making m .bytes) x f ≡ field (m .bytes) x f
     object-off x f lf h = byte-after (λ b. b) x f lf making m long (a .below) tt ∙ rw (ne-eqb x n h)
@@ -163,18 +165,18 @@ module _ (s : Standing) (ok : IsOrder (s .order)) (k : Limits s) where
 
   -- ---- an object is cleared, or moved
 
-  clear-off : (x : ℕ) → x < numbers → (y f : ℕ) → f < 8 → (y ≡ x → ⊥) → field (effect (clear x) m .bytes) y f ≡ field (m .bytes) y f
+  clear-off : (x : ℕ) → x < numbersOf size → (y f : ℕ) → f < 8 → (y ≡ x → ⊥) → field (effect (clear x) m .bytes) y f ≡ field (m .bytes) y f
   clear-off x a y f lf h = byte-after (λ b. b) y f lf (clear x) m long a tt ∙ rw (ne-eqb y x h)
 
   module _ (x : ℕ) (h : object m x ≡ true) where
-    object-below : x < numbers
+    object-below : x < numbersOf size
     object-below = below x (object-used m x h)
 
     pub clear-follows : Follows o m (effect (clear x) m) (s .outside) (s .outside)
     clear-follows =
         one-follows o m (effect (clear x) m) (s .outside) x k (object-task m x h) (clear-off x object-below)
         (λ g i. true≢false (sym i ∙ inUse-after x (clear x) m long object-below ∙ rw (eq-eqb x x refl)))
-        (λ t u v lu lv g. cut (has t m u v) u v (sym (has-clear x m long object-below t u v lu lv) ∙ g))
+        (λ t u v lu lv g. cut (has t m u v) u v (sym (has-clear m long u v lu lv x object-below t) ∙ g))
       where
         cut : (b : Bool) (u v : ℕ) → (b && not (eqb u x) && not (eqb v x)) ≡ true → (b ≡ true) × (u ≡ x → ⊥) × (v ≡ x → ⊥)
         cut b u v g =
@@ -230,15 +232,15 @@ module _ (s : Standing) (ok : IsOrder (s .order)) (k : Limits s) where
     own-is y (inr t) = or-r (eqb y x) _ (and-i (t .0) (and-i (t .1) (eq-eqb (driverOf m y) x (t .2))))
 
     -- the objects of what is x's own are x's own, and at or below x
-    own-driven : (y : ℕ) → y < numbers → object m y ≡ true → Own (driverOf m y) → Own y
+    own-driven : (y : ℕ) → y < numbersOf size → object m y ≡ true → Own (driverOf m y) → Own y
     own-driven y l h (inl d) = inr (ap (task m) (sym d) ∙ k .bounded y l .driver-task h, h, d)
     own-driven y l h (inr t) = absurd (true≢false (sym (k .bounded y l .driver-task h) ∙ object-task m (driverOf m y) (t .1)))
 
-    own-covered : (us : List ℕ) → Covered (standing o m us) (levelOf m x) → (y : ℕ) → y < numbers → Own y → Covered (standing o m us) (levelOf m y)
+    own-covered : (us : List ℕ) → Covered (standing o m us) (levelOf m x) → (y : ℕ) → y < numbersOf size → Own y → Covered (standing o m us) (levelOf m y)
     own-covered us c y l (inl e) = rw e c
     own-covered us c y l (inr t) = covered-below (standing o m us) ok _ _ (k .bounded y l .driver-above (t .1)) (rw (t .2) c)
 
-    marking-keeps : (e : Effect) (us : List ℕ) → ((y : ℕ) → y < numbers → marked (effect e m) y ≡ (marked m y || own y))
+    marking-keeps : (e : Effect) (us : List ℕ) → ((y : ℕ) → y < numbersOf size → marked (effect e m) y ≡ (marked m y || own y))
         → effect e m .words ≡ m .words
         → ((y f : ℕ) → f < 4 → field (effect e m .bytes) y f ≡ field (m .bytes) y f)
         → ((t : ℕ) → List·Memᴰ t (s .outside) → List·Memᴰ t us)
@@ -303,13 +305,13 @@ module _ (s : Standing) (ok : IsOrder (s .order)) (k : Limits s) where
   effect-keeps (read-access z x) a = record-keeps reads z x a
   effect-keeps (write-access z x) a = record-keeps writes z x a
   effect-keeps (make-task n l r) a = task-keeps n l r (a .0) (a .1)
-  effect-keeps (make-object n l d c b) a = object-keeps n l d c b a
+  effect-keeps (make-object n l d p b) a = object-keeps n l d p b a
   effect-keeps (move-to x c) a = move-keeps x a c
   effect-keeps (clear x) a = clear-keeps x a
   effect-keeps (mark-outside e) a = absurd a
   effect-keeps (mark-thing x) a = thing-keeps x a
 
-pub effects-keep : (s : Standing) → IsOrder (s .order) → Limits s → (es : List Effect) → AllAllowed s es → Limits (standing (s .order) (effects es (s .memory)) (s .outside))
+pub effects-keep : {size : Size} (s : StandingOf size) → IsOrder (s .order) → Limits s → (es : List Effect) → AllAllowed s es → Limits (standing (s .order) (effects es (s .memory)) (s .outside))
 unfolding effects
 effects-keep s ok k [] a = k
 effects-keep s ok k (e ∷ es) a = effects-keep (after s e) ok (effect-keeps s ok k e (a .0)) es (a .1)

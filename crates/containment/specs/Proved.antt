@@ -11,22 +11,23 @@ use lib.ListN.{set}
 use lib.Seq.{set-getD}
 use borrow.Author.Tests.{eqb-true, leb-true}
 use Rattle.bits.specs.AllLaws.{either, and-l, and-r, not-so}
+use Rattle.rows.specs.Size.{Size, numbersOf}
 use Rattle.levels.specs.declared.Order.{Order}
-use Rattle.records.specs.Records.{numbers, recordSize, field, setField, isTask}
+use Rattle.records.specs.Records.{recordSize, field, setField, isTask}
 use Rattle.records.specs.RecordLaws.{core-task}
 use Rattle.model.specs.declared.Call.the-variants.{Start}
 use Rattle.model.specs.Verdicts.{granted, slipped, row-state, row-number, isDone}
-use Rattle.model.specs.State.{Memory, task, driverOf, marked, hasFlow, hasRead, hasWrite}
+use Rattle.model.specs.State.{MemoryOf, task, driverOf, marked, hasFlow, hasRead, hasWrite}
 use Rattle.model.specs.StateLaws.{outside-mark}
 use Rattle.model.specs.Effects.{withBytes, objectOf, mark-outside, effect, effects}
-use Rattle.model.specs.Events.{Test, need, Outcome, unless, firstFailing, verdictOf, outcome, mark}
+use Rattle.model.specs.Events.{Test, need, OutcomeOf, unless, firstFailing, verdictOf, outcome, mark}
 use Rattle.model.specs.Spread.{spread}
 use Rattle.model.specs.Monitor.{refusedUnless, fitted, start, started, perform}
 use Rattle.model.specs.MarkLaws.{where-rest}
 use Rattle.model.specs.TableLaws.{refusals, start-done, by-call}
 use Rattle.model.specs.Trials.{Q}
-use Rattle.containment.specs.Lists.{Item, asks, reports, lent, Standing, Role, starting, marking, other, role, entered, next, run, Admitted, Admissible, begun}
-use Rattle.containment.specs.Claims.{Reached, Containment, Determined, RepeatedMark, NeverUnsound, FreeBare, DriversAbove, OwnOrderReached, MarkGranted, SpreadGranted, GrantedUnreached}
+use Rattle.containment.specs.Lists.{Item, asks, reports, lent, StandingOf, Role, starting, marking, other, role, entered, next, run, Admitted, Admissible, begun}
+use Rattle.containment.specs.Claims.{Reached, Containment, Determined, RepeatedMark, NeverUnsound, FreeBare, DriversAbove, StartGranted, OwnOrderReached, MarkGranted, SpreadGranted, GrantedUnreached}
 use Rattle.containment.specs.Tables.{Table, flows, reads, writes, has}
 use Rattle.containment.specs.Invariant.{standing, Joined, Limits, joins, Invariant, contained}
 use Rattle.containment.specs.ItemsKeep.{start-keeps, run-keeps}
@@ -35,25 +36,25 @@ pub use Rattle.containment.specs.Soundness.{leaves-sound}
 pub use Rattle.containment.specs.SpreadProof.{spread-exact}
 
 -- what a list begun by a granted start leaves
-reached : (o : Order) (m : Memory) (is : List Item) → Reached o m is → Invariant (run is (begun o m))
+reached : {size : Size} (o : Order) (m : MemoryOf size) (is : List Item) → Reached o m is → Invariant (run is (begun o m))
 unfolding begun
 reached o m is r = run-keeps is (begun o m) (start-keeps o m (ap isDone (r .granted-start))) (r .admissible)
 
 pub containment : Containment
-containment o m is r = contained (run is (begun o m)) (reached o m is r .limits)
+containment size o m is r = contained (run is (begun o m)) (reached o m is r .limits)
 
 -- a granted start leaves the same whatever was there
 pub determined : Determined
 unfolding begun
-determined o m n is g h = ap (λ (u : Memory). run is (standing o u [])) (left m g ∙ sym (left n h))
+determined size o m n is g h = ap (λ (u : MemoryOf size). run is (standing o u [])) (left m g ∙ sym (left n h))
   where
-    left : (u : Memory) → perform o u Start .verdict ≡ granted → perform o u Start .memory ≡ started o
-    left u e = ap (λ (out : Outcome). out .memory) (start-done o u (ap isDone e) .2)
+    left : (u : MemoryOf size) → perform o u Start .verdict ≡ granted → perform o u Start .memory ≡ started o
+    left u e = ap (λ (out : OutcomeOf size). out .memory) (start-done o u (ap isDone e) .2)
 
 -- ---- rows 2 and 3 do not apply
 
-module _ (s : Standing) (i : Invariant s) where
-  fitted-out : (out : Outcome) → fitted (s .order) (s .memory) out ≡ out
+module _ {size : Size} (s : StandingOf size) (i : Invariant s) where
+  fitted-out : (out : OutcomeOf size) → fitted (s .order) (s .memory) out ≡ out
   unfolding fitted refusedUnless
   fitted-out out = rw (i .limits .fits, i .is-sound, i .passes)
 
@@ -70,11 +71,11 @@ not-state (need n false ∷ ts) last r h e = omega (arith, leb-true row-number n
 
 pub never-unsound : NeverUnsound
 unfolding outcome verdictOf unless spread
-never-unsound o m is r c =
+never-unsound size o m is r c =
     by-call (λ out. out .verdict ≡ row-state → ⊥) (s .order) (s .memory)
     (rw (start-out s i) (λ e. omega arith)) (λ e n. rw (fitted-out s i) (not-state (e .tests) _ n (honest (e .honest)))) (rw (fitted-out s i) (λ e. omega arith)) c
   where
-    s : Standing
+    s : StandingOf size
     s = run is (begun o m)
 
     i : Invariant s
@@ -86,26 +87,26 @@ never-unsound o m is r c =
 
 -- ---- what is marked from outside is marked already, and its objects are
 
-mark-again : (s : Standing) → Limits s → (e : ℕ) → List·Memᴰ e (s .outside) → effect (mark-outside e) (s .memory) ≡ s .memory
+mark-again : {size : Size} (s : StandingOf size) → Limits s → (e : ℕ) → List·Memᴰ e (s .outside) → effect (mark-outside e) (s .memory) ≡ s .memory
 unfolding effect objectOf field setField
-mark-again s k e h = rw same (where-rest (objectOf m e) m own)
+mark-again {size} s k e h = rw same (where-rest (objectOf m e) m own)
   where
-    m : Memory
+    m : MemoryOf size
     m = s .memory
 
     same : withBytes m (setField (m .bytes) e 5 3) ≡ m
     same = ap (withBytes m) (ap (set (m .bytes) (recordSize * e + 5)) (sym (k .named e h .1)) ∙ set-getD (m .bytes) (recordSize * e + 5) 0)
 
-    own : (x : ℕ) → x < numbers → objectOf m e x ≡ true → marked m x ≡ true
+    own : (x : ℕ) → x < numbersOf size → objectOf m e x ≡ true → marked m x ≡ true
     own x l p =
         let t = simp and-eq-true-iff at p in
         k .bounded x l .driven-marked (t .0) (ap (marked m) (eqb-true (driverOf m x) e (t .1)) ∙ outside-mark m e (k .named e h .1))
 
 pub repeated-mark : RepeatedMark
 unfolding outcome verdictOf firstFailing unless mark effects
-repeated-mark o m is r e h = fitted-out s i _ ∙ rw (i .limits .named e h .0, mark-again s (i .limits) e h)
+repeated-mark size o m is r e h = fitted-out s i _ ∙ rw (i .limits .named e h .0, mark-again s (i .limits) e h)
   where
-    s : Standing
+    s : StandingOf size
     s = run is (begun o m)
 
     i : Invariant s
@@ -115,12 +116,12 @@ repeated-mark o m is r e h = fitted-out s i _ ∙ rw (i .limits .named e h .0, m
 
 pub free-bare : FreeBare
 unfolding hasFlow hasRead hasWrite
-free-bare o m is r x y lx ly free = ((from flows, from reads, from writes), (to flows, to reads, to writes))
+free-bare size o m is r x y lx ly free = ((from flows, from reads, from writes), (to flows, to reads, to writes))
   where
-    n : Memory
+    n : MemoryOf size
     n = run is (begun o m) .memory
 
-    joined : (t : Table) (u v : ℕ) → u < numbers → v < numbers → has t n u v ≡ true → Joined n u v
+    joined : (t : Table) (u v : ℕ) → u < numbersOf size → v < numbersOf size → has t n u v ≡ true → Joined n u v
     joined = joins (reached o m is r .limits)
 
     from : (t : Table) → has t n x y ≡ false
@@ -130,16 +131,16 @@ free-bare o m is r x y lx ly free = ((from flows, from reads, from writes), (to 
     to t = not-so _ (λ h. true≢false (sym (joined t y x ly lx h .1) ∙ free))
 
 pub drivers-above : DriversAbove
-drivers-above o m is r x l = reached o m is r .limits .bounded x l .driver-above
+drivers-above size o m is r x l = reached o m is r .limits .bounded x l .driver-above
 
 -- ---- no claim is empty
 
-admitted : (i : Item) (s : Standing) → lent i ≡ s .order → Admitted i s
+admitted : {size : Size} (i : Item) (s : StandingOf size) → lent i ≡ s .order → Admitted i s
 admitted (asks o c) s e = inr (λ h. e)
 admitted (reports o) s e = tt
 
 -- a call under the order that stands leaves it standing
-next-order : (i : Item) (s : Standing) → lent i ≡ s .order → next i s .order ≡ s .order
+next-order : {size : Size} (i : Item) (s : StandingOf size) → lent i ≡ s .order → next i s .order ≡ s .order
 unfolding next entered
 next-order (asks o c) s e = ⊎-elim (λ h. rw h (go (role c))) (λ h. rw h) (either (isDone (perform o (s .memory) c .verdict)))
   where
@@ -149,27 +150,31 @@ next-order (asks o c) s e = ⊎-elim (λ h. rw h (go (role c))) (λ h. rw h) (ei
     go other = refl
 next-order (reports o) s e = refl
 
-under-one : (o : Order) (is : List Item) (s : Standing) → s .order ≡ o → ((i : Item) → List·Memᴰ i is → lent i ≡ o) → Admissible is s
+under-one : {size : Size} (o : Order) (is : List Item) (s : StandingOf size) → s .order ≡ o → ((i : Item) → List·Memᴰ i is → lent i ≡ o) → Admissible is s
 under-one o [] s e l = tt
 under-one o (i ∷ is) s e l =
     let h = l i (List·Memᴰ·head refl) ∙ sym e in
     (admitted i s h, under-one o is (next i s) (next-order i s h ∙ e) (λ j k. l j (List·Memᴰ·tail k)))
 
+pub start-granted : StartGranted
+unfolding start refusedUnless
+start-granted size o m f p = rw (f, p)
+
 pub own-order-reached : OwnOrderReached
 unfolding begun
-own-order-reached o m is g h = record { granted-start = g; admissible = under-one o is (begun o m) refl h }
+own-order-reached size o m is g h = record { granted-start = g; admissible = under-one o is (begun o m) refl h }
 
 pub mark-granted : MarkGranted
 unfolding outcome verdictOf firstFailing unless mark task isTask
-mark-granted o m is r =
+mark-granted size o m is r =
     let s = run is (begun o m) in
     let i = reached o m is r in
-    ap (λ (out : Outcome). out .verdict) (fitted-out s i (outcome (s .memory) (mark (s .order) (s .memory) 0))) ∙ rw (core-task (s .order) (s .memory .bytes) (i .is-sound))
+    ap (λ (out : OutcomeOf size). out .verdict) (fitted-out s i (outcome (s .memory) (mark (s .order) (s .memory) 0))) ∙ rw (core-task size (s .order) (s .memory .bytes) (i .is-sound))
 
 pub spread-granted : SpreadGranted
 unfolding spread
-spread-granted o m is r = ap (λ (out : Outcome). out .verdict) (fitted-out (run is (begun o m)) (reached o m is r) (spread (run is (begun o m) .memory)))
+spread-granted size o m is r = ap (λ (out : OutcomeOf size). out .verdict) (fitted-out (run is (begun o m)) (reached o m is r) (spread (run is (begun o m) .memory)))
 
 pub granted-unreached : GrantedUnreached
-granted-unreached =
-    (Q, upward, record { spread-granted = upward-granted; spread-marks = upward-marks; no-list = λ o m is r. none-leaves (run is (begun o m)) (reached o m is r) })
+granted-unreached size =
+    (Q, upward size, record { spread-granted = upward-granted size; spread-marks = upward-marks size; no-list = λ o m is r. none-leaves (run is (begun o m)) (reached o m is r) })

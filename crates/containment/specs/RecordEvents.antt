@@ -7,26 +7,27 @@ use mathlib.Core.List.{[], _∷_}
 use Prim.Native.Nat.{ℕ}
 use lib.Dec.{ltb}
 use borrow.Author.Tests.{eq-eqb, ne-eqb, ltb-true, not-true}
+use Rattle.rows.specs.Size.{Size, numbersOf}
 use Rattle.levels.specs.declared.Order.{Order}
 use Rattle.levels.specs.Order.{atOrBelow}
 use Rattle.levels.specs.OrderLaws.{IsOrder}
-use Rattle.records.specs.Records.{numbers, rootSign}
-use Rattle.model.specs.State.{Memory, inUse, task, levelOf, marked}
+use Rattle.records.specs.Records.{Place, root, within}
+use Rattle.model.specs.State.{MemoryOf, inUse, task, levelOf, marked}
 use Rattle.model.specs.StateLaws.{task-used, object-used, used-below}
 use Rattle.model.specs.Effects.{Effect, flow-if, make-task, make-object, move-to, clear, effect}
 use Rattle.model.specs.EffectLaws.{Long, fit-long, inUse-after, level-after}
 use Rattle.model.specs.Events.{execute, create, createRoot, move, delete}
 use Rattle.model.specs.TableLaws.{Holds}
-use Rattle.containment.specs.Lists.{Standing}
+use Rattle.containment.specs.Lists.{StandingOf}
 use Rattle.containment.specs.Invariant.{MayFlow, Limits, to-marked, under-marked}
 use Rattle.containment.specs.Follows.{Follows, same-use}
 use Rattle.containment.specs.Preserve.{after, MayMake, Allowed, AllAllowed, object-follows, clear-follows, move-follows, effect-keeps}
 
-module _ (s : Standing) (ok : IsOrder (s .order)) (k : Limits s) where
+module _ {size : Size} (s : StandingOf size) (ok : IsOrder (s .order)) (k : Limits s) where
   abbrev o : Order
   o = s .order
 
-  abbrev m : Memory
+  abbrev m : MemoryOf size
   m = s .memory
 
   long : Long m
@@ -49,7 +50,7 @@ module _ (s : Standing) (ok : IsOrder (s .order)) (k : Limits s) where
   execute-allowed c i n l r h =
       let t = simp and-eq-true-iff at (h .0) in
       let g = simp and-eq-true-iff at (h .1 .1 .1 .0) in
-      let ln = ltb-true n numbers (t .1) in
+      let ln = ltb-true n (numbersOf size) (t .1) in
       let free = not-true (inUse m n) (h .1 .0) in
       let ui = object-used m i (t .0 .1) in
       let e = make-task n l r in
@@ -65,14 +66,14 @@ module _ (s : Standing) (ok : IsOrder (s .order)) (k : Limits s) where
         ),
       )
 
-  created-allowed : (c d n q l : ℕ) → task m c ≡ true → task m d ≡ true → ltb n numbers ≡ true → not (inUse m n) ≡ true → atOrBelow o l (levelOf m d) ≡ true
-      → AllAllowed s (make-object n l d q (marked m d) ∷ flow-if (marked m d) c n ∷ flow-if (marked m d) c d ∷ [])
+  created-allowed : (c d n : ℕ) (p : Place) (l : ℕ) → task m c ≡ true → task m d ≡ true → ltb n (numbersOf size) ≡ true → not (inUse m n) ≡ true → atOrBelow o l (levelOf m d) ≡ true
+      → AllAllowed s (make-object n l d p (marked m d) ∷ flow-if (marked m d) c n ∷ flow-if (marked m d) c d ∷ [])
   unfolding effect inUse task
-  created-allowed c d n q l tc td ln free above =
-      let e = make-object n l d q (marked m d) in
-      let ln′ = ltb-true n numbers ln in
+  created-allowed c d n p l tc td ln free above =
+      let e = make-object n l d p (marked m d) in
+      let ln′ = ltb-true n (numbersOf size) ln in
       let a : MayMake s n l d (marked m d) = record { below = ln′; free = not-true (inUse m n) free; driver = td; above = above; mark = refl } in
-      let f = object-follows s ok k n l d q (marked m d) a in (
+      let f = object-follows s ok k n l d p (marked m d) a in (
         a,
         (
           λ g. to-driven e a f c d tc td g n (inUse-after n e m long ln′ ∙ rw (eq-eqb n n refl)) (rw (level-after n e m long ln′, eq-eqb n n refl) above),
@@ -85,14 +86,14 @@ module _ (s : Standing) (ok : IsOrder (s .order)) (k : Limits s) where
   create-allowed c d n q l h =
       let t = simp and-eq-true-iff at (h .0) in
       let g = simp and-eq-true-iff at (h .1 .1 .1 .1 .0) in
-      created-allowed c d n q l (t .0 .0 .0) (t .0 .0 .1) (t .0 .1) (h .1 .0) (g .1)
+      created-allowed c d n (within q) l (t .0 .0 .0) (t .0 .0 .1) (t .0 .1) (h .1 .0) (g .1)
 
   pub createRoot-allowed : (c d n l : ℕ) → Holds (createRoot o m c d n l .tests) → AllAllowed s (createRoot o m c d n l .effects)
   unfolding createRoot
   createRoot-allowed c d n l h =
       let t = simp and-eq-true-iff at (h .0) in
       let g = simp and-eq-true-iff at (h .1 .1 .1 .0) in
-      created-allowed c d n rootSign l (t .0 .0) (t .0 .1) (t .1) (h .1 .0) (g .1)
+      created-allowed c d n root l (t .0 .0) (t .0 .1) (t .1) (h .1 .0) (g .1)
 
   pub move-allowed : (e d x f t : ℕ) → Holds (move o m e d x f t .tests) → AllAllowed s (move o m e d x f t .effects)
   unfolding move effect inUse task

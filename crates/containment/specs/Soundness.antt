@@ -4,22 +4,23 @@ use mathlib.Core.Path.{_≡_, refl, sym, ap, _∙_}
 use mathlib.Core.Logic.{_⊎_, inl, inr, ⊎-elim}
 use mathlib.Core.Bool.{Bool, true, false, _&&_, and-eq-true-iff, true≢false}
 use mathlib.Core.List.{List, [], _∷_}
-use Prim.Native.Nat.{ℕ, _*_, _<_}
+use Prim.Native.Nat.{ℕ, _<_}
 use native.Mathlib.Omega.{arith}
 use lib.Dec.{eqb}
 use lib.ListN.{length, length-replicate}
 use borrow.Author.Tests.{eqb-true, eqb-false, eq-eqb, ltb-true, not-true, not-false}
 use Rattle.bits.specs.All.{one}
 use Rattle.bits.specs.AllLaws.{and-i, and-l, any-i, or-cases}
+use Rattle.rows.specs.Size.{Size, numbersOf, lentWords}
 use Rattle.levels.specs.declared.Order.{Order}
 use Rattle.levels.specs.Order.{inOrder, orderPasses}
 use Rattle.levels.specs.OrderLaws.{is-order, both-in}
-use Rattle.records.specs.Records.{numbers, recordSize, rootSign, kind, isTask, isObject, sound}
+use Rattle.records.specs.Records.{kind, isTask, isObject, soundOf, lentBytes}
 use Rattle.records.specs.RecordLaws.{field-else, in-use, long}
-use Rattle.records.specs.KeepLaws.{task-made, object-made, object-moved, object-cleared, mark-kept, sound-start}
+use Rattle.records.specs.KeepLaws.{task-made, PlaceFits, object-made, object-moved, object-cleared, mark-kept, sound-start}
 use Rattle.model.specs.declared.Call.the-variants.{Start, Read, Write, Execute, Create, CreateRoot, Move, Delete, CallTask, Invoke, Pass, Post, Find, Mark, Step, Spread}
 use Rattle.model.specs.Verdicts.{isDone}
-use Rattle.model.specs.State.{Memory, rowSize, tables, lengthsFit, inUse, task, object, driverOf, containerOf}
+use Rattle.model.specs.State.{MemoryOf, lengthsFit, inUse, task, object, driverOf, liesIn}
 use Rattle.model.specs.StateLaws.{object-used}
 use Rattle.model.specs.Effects.{Effect, flow, flow-if, read-access, write-access, make-task, make-object, move-to, clear, mark-outside, mark-thing, objectOf, markWhere, effect, effects}
 use Rattle.model.specs.Events.{Event, outcome, read, write, execute, create, createRoot, move, delete, callTask, invoke, pass, post, find, mark, step}
@@ -31,136 +32,137 @@ use Rattle.model.specs.TableLaws.{Happened, refusals, event-done, fitted-done, 
 use Rattle.model.specs.EffectLaws.{fit-long, long-fits, effect-long}
 use Rattle.containment.specs.Claims.{LeavesSound}
 
-abbrev Sound : Order → Memory → Type 0
-Sound o m = (lengthsFit m ≡ true) × (sound o (m .bytes) ≡ true)
+module _ {size : Size} where
+  abbrev Sound : Order → MemoryOf size → Type 0
+  Sound o m = (lengthsFit m ≡ true) × (soundOf size o (m .bytes) ≡ true)
 
--- ---- each kind of effect
+  -- ---- each kind of effect
 
--- what has to hold for an effect to keep the bytes sound
-abbrev Allowed : Order → Memory → Effect → Type 0
-Allowed o m (flow x y) = Unit {0}
-Allowed o m (flow-if b x y) = Unit {0}
-Allowed o m (read-access e x) = Unit {0}
-Allowed o m (write-access e x) = Unit {0}
-Allowed o m (make-task n l r) = (n < numbers) × (inUse m n ≡ false) × (inOrder o l ≡ true) × (inOrder o r ≡ true)
-Allowed o m (make-object n l d c b) = (n < numbers) × (inUse m n ≡ false) × (inOrder o l ≡ true) × (task m d ≡ true) × ((c ≡ rootSign) ⊎ (object m c ≡ true))
-Allowed o m (move-to x c) = (object m x ≡ true) × (object m c ≡ true) × (c ≡ x → ⊥)
-Allowed o m (clear x) = (object m x ≡ true) × ((y : ℕ) → y < numbers → object m y ≡ true → containerOf m y ≡ x → ⊥)
-Allowed o m (mark-outside e) = task m e ≡ true
-Allowed o m (mark-thing x) = inUse m x ≡ true
+  -- what has to hold for an effect to keep the bytes sound
+  abbrev Allowed : Order → MemoryOf size → Effect → Type 0
+  Allowed o m (flow x y) = Unit {0}
+  Allowed o m (flow-if b x y) = Unit {0}
+  Allowed o m (read-access e x) = Unit {0}
+  Allowed o m (write-access e x) = Unit {0}
+  Allowed o m (make-task n l r) = (n < numbersOf size) × (inUse m n ≡ false) × (inOrder o l ≡ true) × (inOrder o r ≡ true)
+  Allowed o m (make-object n l d p b) = (n < numbersOf size) × (inUse m n ≡ false) × (inOrder o l ≡ true) × (task m d ≡ true) × PlaceFits (m .bytes) p
+  Allowed o m (move-to x c) = (object m x ≡ true) × ((f : ℕ) × (liesIn m x f ≡ true)) × (object m c ≡ true) × (c ≡ x → ⊥)
+  Allowed o m (clear x) = (object m x ≡ true) × ((y : ℕ) → y < numbersOf size → object m y ≡ true → liesIn m y x ≡ true → ⊥)
+  Allowed o m (mark-outside e) = task m e ≡ true
+  Allowed o m (mark-thing x) = inUse m x ≡ true
 
--- marks on things in use
-where-sound : (o : Order) (p : ℕ → Bool) (m : Memory) → sound o (m .bytes) ≡ true → ((x : ℕ) → p x ≡ true → inUse m x ≡ true) → sound o (markWhere p m .bytes) ≡ true
-unfolding inUse
-where-sound o p m h used =
-    where-keeps p m (λ v. (sound o (v .bytes) ≡ true) × ((x : ℕ) → kind (v .bytes) x ≡ kind (m .bytes) x))
-    (λ x v l e n q. (
-      mark-kept o (v .bytes) (q .0) x 1 (rw (q .1 x) (eqb-false _ _ (not-true _ (used x e)))) (inl refl),
-      λ y. field-else (v .bytes) x 5 1 y 0 (omega arith) (omega arith) (inr (omega arith)) ∙ q .1 y,
-    )) (h, λ x. refl) .0
+  -- marks on things in use
+  where-sound : (o : Order) (p : ℕ → Bool) (m : MemoryOf size) → soundOf size o (m .bytes) ≡ true → ((x : ℕ) → p x ≡ true → inUse m x ≡ true) → soundOf size o (markWhere p m .bytes) ≡ true
+  unfolding inUse
+  where-sound o p m h used =
+      where-keeps p m (λ v. (soundOf size o (v .bytes) ≡ true) × ((x : ℕ) → kind (v .bytes) x ≡ kind (m .bytes) x))
+      (λ x v l e n q. (
+        mark-kept size o (v .bytes) (q .0) x 1 (rw (q .1 x) (eqb-false _ _ (not-true _ (used x e)))) (inl refl),
+        λ y. field-else (v .bytes) x 5 1 y 0 (omega arith) (omega arith) (inr (omega arith)) ∙ q .1 y,
+      )) (h, λ x. refl) .0
 
-effect-sound : (o : Order) (m : Memory) (e : Effect) → sound o (m .bytes) ≡ true → Allowed o m e → sound o (effect e m .bytes) ≡ true
-unfolding effect inUse task object objectOf isTask isObject
-effect-sound o m (flow x y) h a = h
-effect-sound o m (flow-if b x y) h a = h
-effect-sound o m (read-access e x) h a = h
-effect-sound o m (write-access e x) h a = h
-effect-sound o m (make-task n l r) h a = task-made o (m .bytes) h n l r (a .0) (eqb-true _ _ (not-false _ (a .1))) (ltb-true _ _ (a .2)) (ltb-true _ _ (a .3))
-effect-sound o m (make-object n l d c b) h a =
-    object-made o (m .bytes) h n l d c (one b) (a .0) (eqb-true _ _ (not-false _ (a .1))) (ltb-true _ _ (a .2)) (eqb-true _ _ (a .3)) (⊎-elim inl (λ q. inr (eqb-true _ _ q)) (a .4)) (go b)
-  where
-    go : (b : Bool) → (one b ≡ 0) ⊎ (one b ≡ 1)
-    go true = inr refl
-    go false = inl refl
-effect-sound o m (move-to x c) h a = object-moved o (m .bytes) h x c (eqb-true _ _ (a .0)) (eqb-true _ _ (a .1)) (a .2)
-effect-sound o m (clear x) h a =
-    object-cleared o (m .bytes) h x (eqb-true _ _ (a .0)) (λ y k. a .1 y (in-use o (m .bytes) h y (omega arith)) (eq-eqb _ _ k))
-effect-sound o m (mark-outside e) h a =
-    let k : kind (m .bytes) e ≡ 1 = eqb-true _ _ a in
-    where-sound o _ _ (mark-kept o (m .bytes) h e 3 (omega arith) (inr (refl, k)))
-    (λ x q. rw (field-else (m .bytes) e 5 3 x 0 (omega arith) (omega arith) (inr (omega arith))) (object-used m x (and-l (object m x) (eqb (driverOf m x) e) q)))
-effect-sound o m (mark-thing x) h a =
-    where-sound o _ m h
-    (λ y q. ⊎-elim (λ d. rw (eqb-true y x d) a) (λ d. object-used m y ((simp and-eq-true-iff at d) .1 .0)) (or-cases (eqb y x) _ q))
+  effect-sound : (o : Order) (m : MemoryOf size) (e : Effect) → soundOf size o (m .bytes) ≡ true → Allowed o m e → soundOf size o (effect e m .bytes) ≡ true
+  unfolding effect inUse task object objectOf isTask isObject
+  effect-sound o m (flow x y) h a = h
+  effect-sound o m (flow-if b x y) h a = h
+  effect-sound o m (read-access e x) h a = h
+  effect-sound o m (write-access e x) h a = h
+  effect-sound o m (make-task n l r) h a = task-made size o (m .bytes) h n l r (a .0) (eqb-true _ _ (not-false _ (a .1))) (ltb-true _ _ (a .2)) (ltb-true _ _ (a .3))
+  effect-sound o m (make-object n l d p b) h a =
+      object-made size o (m .bytes) h n l d (one b) p (a .0) (eqb-true _ _ (not-false _ (a .1))) (ltb-true _ _ (a .2)) (eqb-true _ _ (a .3)) (a .4) (go b)
+    where
+      go : (b : Bool) → (one b ≡ 0) ⊎ (one b ≡ 1)
+      go true = inr refl
+      go false = inl refl
+  effect-sound o m (move-to x c) h a = object-moved size o (m .bytes) h x (a .1 .0) c (eqb-true _ _ (a .0)) (a .1 .1) (eqb-true _ _ (a .2)) (a .3)
+  effect-sound o m (clear x) h a =
+      object-cleared size o (m .bytes) h x (eqb-true _ _ (a .0)) (λ y k. a .1 y (in-use size o (m .bytes) h y (omega arith)) (eq-eqb _ _ k))
+  effect-sound o m (mark-outside e) h a =
+      let k : kind (m .bytes) e ≡ 1 = eqb-true _ _ a in
+      where-sound o _ _ (mark-kept size o (m .bytes) h e 3 (omega arith) (inr (refl, k)))
+      (λ x q. rw (field-else (m .bytes) e 5 3 x 0 (omega arith) (omega arith) (inr (omega arith))) (object-used m x (and-l (object m x) (eqb (driverOf m x) e) q)))
+  effect-sound o m (mark-thing x) h a =
+      where-sound o _ m h
+      (λ y q. ⊎-elim (λ d. rw (eqb-true y x d) a) (λ d. object-used m y ((simp and-eq-true-iff at d) .1 .0)) (or-cases (eqb y x) _ q))
 
--- ---- events
+  -- ---- events
 
-abbrev AllAllowed : Order → Memory → List Effect → Type 0
-AllAllowed o m [] = Unit {0}
-AllAllowed o m (e ∷ es) = Allowed o m e × AllAllowed o (effect e m) es
+  abbrev AllAllowed : Order → MemoryOf size → List Effect → Type 0
+  AllAllowed o m [] = Unit {0}
+  AllAllowed o m (e ∷ es) = Allowed o m e × AllAllowed o (effect e m) es
 
-effects-sound : (o : Order) (m : Memory) (es : List Effect) → Sound o m → AllAllowed o m es → Sound o (effects es m)
-unfolding effects
-effects-sound o m [] h a = h
-effects-sound o m (e ∷ es) h a = effects-sound o (effect e m) es (long-fits (effect-long e (fit-long m (h .0))), effect-sound o m e (h .1) (a .0)) (a .1)
+  effects-sound : (o : Order) (m : MemoryOf size) (es : List Effect) → Sound o m → AllAllowed o m es → Sound o (effects es m)
+  unfolding effects
+  effects-sound o m [] h a = h
+  effects-sound o m (e ∷ es) h a = effects-sound o (effect e m) es (long-fits (effect-long e (fit-long m (h .0))), effect-sound o m e (h .1) (a .0)) (a .1)
 
--- an event whose tests allow its effects
-event-sound : (o : Order) (m : Memory) (e : Event) → refusals (e .tests) ≡ true → (Happened o m e → AllAllowed o m (e .effects))
-    → isDone (fitted o m (outcome m e) .verdict) ≡ true → Sound o (fitted o m (outcome m e) .memory)
-event-sound o m e r allowed h =
-    let d = event-done o m e r h in
-    rw (d .leaves) (effects-sound o m (e .effects) (d .lengths, d .sound-bytes) (allowed d))
+  -- an event whose tests allow its effects
+  event-sound : (o : Order) (m : MemoryOf size) (e : Event) → refusals (e .tests) ≡ true → (Happened o m e → AllAllowed o m (e .effects))
+      → isDone (fitted o m (outcome m e) .verdict) ≡ true → Sound o (fitted o m (outcome m e) .memory)
+  event-sound o m e r allowed h =
+      let d = event-done o m e r h in
+      rw (d .leaves) (effects-sound o m (e .effects) (d .lengths, d .sound-bytes) (allowed d))
 
--- ---- the spread
+  -- ---- the spread
 
-round-sound : (o : Order) (m : Memory) → sound o (m .bytes) ≡ true → sound o (round m .bytes) ≡ true
-unfolding round reached driven
-round-sound o m h =
-    where-sound o _ _ (where-sound o _ m h (λ x e. (simp and-eq-true-iff at e) .0 .1)) (λ x e. object-used _ x ((simp and-eq-true-iff at e) .0))
+  round-sound : (o : Order) (m : MemoryOf size) → soundOf size o (m .bytes) ≡ true → soundOf size o (round m .bytes) ≡ true
+  unfolding round reached driven
+  round-sound o m h =
+      where-sound o _ _ (where-sound o _ m h (λ x e. (simp and-eq-true-iff at e) .0 .1)) (λ x e. object-used _ x ((simp and-eq-true-iff at e) .0))
 
 -- ---- every call
 
-started-sound : (o : Order) → orderPasses o ≡ true → Sound o (started o)
+started-sound : (size : Size) (o : Order) → orderPasses o ≡ true → Sound o (started {size = size} o)
 unfolding started
-started-sound o h =
+started-sound size o h =
     let q = is-order o h in
-    let s = sound-start o (recordSize * numbers) refl (both-in o 0 (o .top) (q .upper 0 (q .some)) .1) in
-    (long-fits (record { bytes-long = long o _ s; words-long = length-replicate {A = ℕ} (rowSize * (numbers * tables)) 0 }), s)
+    let s = sound-start size o (lentBytes size) refl (both-in o 0 (o .top) (q .upper 0 (q .some)) .1) in
+    (long-fits (record { bytes-long = long size o _ s; words-long = length-replicate {A = ℕ} (lentWords size) 0 }), s)
 
 pub leaves-sound : LeavesSound
-unfolding read write execute create createRoot move delete callTask invoke pass post find mark step spread start started
-leaves-sound o m Start h = let d = start-done o m h in rw (d .2) (started-sound o (d .1))
-leaves-sound o m (Read e d x) h = event-sound o m (read o m e d x) refl (λ t. (tt, (tt, (tt, (tt, tt))))) h
-leaves-sound o m (Write e d x) h = event-sound o m (write o m e d x) refl (λ t. (tt, (tt, (tt, tt)))) h
-leaves-sound o m (Execute c i n l r) h =
+unfolding object read write execute create createRoot move delete callTask invoke pass post find mark step spread start started
+leaves-sound size o m Start h = let d = start-done o m h in rw (d .2) (started-sound size o (d .1))
+leaves-sound size o m (Read e d x) h = event-sound o m (read o m e d x) refl (λ t. (tt, (tt, (tt, (tt, tt))))) h
+leaves-sound size o m (Write e d x) h = event-sound o m (write o m e d x) refl (λ t. (tt, (tt, (tt, tt)))) h
+leaves-sound size o m (Execute c i n l r) h =
     event-sound o m (execute o m c i n l r) refl
     (λ t.
     let a = simp and-eq-true-iff at (t .tests .0) in
     let s = simp and-eq-true-iff at (t .tests .1 .1 .0) in
     ((ltb-true _ _ (a .1), not-true _ (t .tests .1 .0), s .0, s .1), (tt, tt))) h
-leaves-sound o m (Create c d n k l) h =
+leaves-sound size o m (Create c d n k l) h =
     event-sound o m (create o m c d n k l) refl
     (λ t.
     let a = simp and-eq-true-iff at (t .tests .0) in
-    ((ltb-true _ _ (a .0 .1), not-true _ (t .tests .1 .0), t .tests .1 .1 .1 .0, a .0 .0 .1, inr (a .1)), (tt, (tt, tt)))) h
-leaves-sound o m (CreateRoot c d n l) h =
+    ((ltb-true _ _ (a .0 .1), not-true _ (t .tests .1 .0), t .tests .1 .1 .1 .0, a .0 .0 .1, a .1), (tt, (tt, tt)))) h
+leaves-sound size o m (CreateRoot c d n l) h =
     event-sound o m (createRoot o m c d n l) refl
     (λ t.
     let a = simp and-eq-true-iff at (t .tests .0) in
-    ((ltb-true _ _ (a .1), not-true _ (t .tests .1 .0), t .tests .1 .1 .0, a .0 .1, inl refl), (tt, (tt, tt)))) h
-leaves-sound o m (Move e d x f t) h =
+    ((ltb-true _ _ (a .1), not-true _ (t .tests .1 .0), t .tests .1 .1 .0, a .0 .1, tt), (tt, (tt, tt)))) h
+leaves-sound size o m (Move e d x f t) h =
     event-sound o m (move o m e d x f t) refl
     (λ p.
     let a = simp and-eq-true-iff at (p .tests .0) in
     let b = simp and-eq-true-iff at (p .tests .1 .1 .0) in
-    ((a .0 .0 .1, a .1, λ q. eqb-false x t (not-true _ (b .0 .0 .1)) (sym q)), (tt, (tt, tt)))) h
-leaves-sound o m (Delete e d x k) h =
+    ((a .0 .0 .1, (f, b .1), a .1, λ q. eqb-false x t (not-true _ (b .0 .0 .1)) (sym q)), (tt, (tt, tt)))) h
+leaves-sound size o m (Delete e d x k) h =
     event-sound o m (delete o m e d x k) refl
     (λ p.
     let a = simp and-eq-true-iff at (p .tests .0) in
-    ((a .0 .1, λ y l i c. true≢false (sym (any-i numbers (λ y. object m y && eqb (containerOf m y) x) y l (and-i i (eq-eqb _ _ c))) ∙ not-true _ (p .tests .1 .1 .1 .1 .1 .0))), (tt, tt))) h
-leaves-sound o m (CallTask a b) h = event-sound o m (callTask o m a b) refl (λ t. (tt, (tt, tt))) h
-leaves-sound o m (Invoke a b) h = event-sound o m (invoke o m a b) refl (λ t. (tt, (tt, tt))) h
-leaves-sound o m (Pass z x y) h = event-sound o m (pass o m z x y) refl (λ t. (tt, tt)) h
-leaves-sound o m (Post x z y) h = event-sound o m (post o m x z y) refl (λ t. (tt, tt)) h
-leaves-sound o m (Find x z y) h = event-sound o m (find o m x z y) refl (λ t. (tt, tt)) h
-leaves-sound o m (Mark e) h = event-sound o m (mark o m e) refl (λ t. (t .tests .0, tt)) h
-leaves-sound o m (Step x) h = event-sound o m (step o m x) refl (λ t. (t .tests .0, tt)) h
-leaves-sound o m Spread h =
+    ((a .0 .1, λ y l i c. true≢false (sym (any-i (numbersOf size) (λ y. object m y && liesIn m y x) y l (and-i i c)) ∙ not-true _ (p .tests .1 .1 .1 .1 .1 .0))), (tt, tt))) h
+leaves-sound size o m (CallTask a b) h = event-sound o m (callTask o m a b) refl (λ t. (tt, (tt, tt))) h
+leaves-sound size o m (Invoke a b) h = event-sound o m (invoke o m a b) refl (λ t. (tt, (tt, tt))) h
+leaves-sound size o m (Pass z x y) h = event-sound o m (pass o m z x y) refl (λ t. (tt, tt)) h
+leaves-sound size o m (Post x z y) h = event-sound o m (post o m x z y) refl (λ t. (tt, tt)) h
+leaves-sound size o m (Find x z y) h = event-sound o m (find o m x z y) refl (λ t. (tt, tt)) h
+leaves-sound size o m (Mark e) h = event-sound o m (mark o m e) refl (λ t. (t .tests .0, tt)) h
+leaves-sound size o m (Step x) h = event-sound o m (step o m x) refl (λ t. (t .tests .0, tt)) h
+leaves-sound size o m Spread h =
     let f = fitted-done o m (spread m) h in
     let l = fit-long m (f .lengths) in
     let g = spread-more m in
     rw (f .inner) (
       long-fits (record { bytes-long = g .length-kept ∙ l .bytes-long; words-long = ap length (g .words-kept) ∙ l .words-long }),
-      after-keeps (λ v. sound o (v .bytes) ≡ true) (round-sound o) numbers m (f .sound-bytes),
+      after-keeps (λ v. soundOf size o (v .bytes) ≡ true) (round-sound o) (numbersOf size) m (f .sound-bytes),
     )

@@ -6,11 +6,12 @@ use Prim.Native.Nat.{ℕ}
 use native.Mathlib.Omega.{arith}
 use borrow.Author.Tests.{eqb-true}
 use Rattle.bits.specs.AllLaws.{not-so}
+use Rattle.rows.specs.Size.{Size}
 use Rattle.levels.specs.declared.Order.{Order}
-use Rattle.records.specs.Records.{sound}
+use Rattle.records.specs.Records.{soundOf}
 use Rattle.records.specs.RecordLaws.{long, free-fields}
 use Rattle.model.specs.Verdicts.{isDone}
-use Rattle.model.specs.State.{Memory, inUse, marked}
+use Rattle.model.specs.State.{MemoryOf, inUse, marked}
 use Rattle.model.specs.Spread.{spread}
 use Rattle.model.specs.TableLaws.{fitted-done}
 use Rattle.model.specs.MarkLaws.{kept-marked, kept-inUse, kept-object, kept-driver, kept-flow}
@@ -18,14 +19,14 @@ use Rattle.model.specs.SpreadLaws.{Sized, sized-more, Closed, MarksIn, rest-clo
 use Rattle.containment.specs.Chains.{Chain, first, by-flow, by-driver}
 use Rattle.containment.specs.Claims.{Exact, SpreadExact}
 
-module _ (o : Order) (m : Memory) (ok : sound o (m .bytes) ≡ true) where
+module _ {size : Size} (o : Order) (m : MemoryOf size) (ok : soundOf size o (m .bytes) ≡ true) where
   sized : Sized m
-  sized = long o (m .bytes) ok
+  sized = long size o (m .bytes) ok
 
   -- what is marked before is the first of a chain: a free number has no mark
   marked-first : MarksIn (Chain m) m
   unfolding marked inUse
-  marked-first x l e = first x l (ap not (not-so _ (λ z. false≢true (rw (free-fields o (m .bytes) ok x (eqb-true _ _ z) 5 (omega arith)) at e)))) e
+  marked-first x l e = first x l (ap not (not-so _ (λ z. false≢true (rw (free-fields size o (m .bytes) ok x (eqb-true _ _ z) 5 (omega arith)) at e)))) e
 
   chains-closed : Closed m (Chain m)
   chains-closed = record { by-flow = by-flow; by-driver = by-driver }
@@ -50,4 +51,4 @@ module _ (o : Order) (m : Memory) (ok : sound o (m .bytes) ≡ true) where
       }
 
 pub spread-exact : SpreadExact
-spread-exact o m g = let f = fitted-done o m (spread m) (ap isDone g) in rw (f .inner) (exact o m (f .sound-bytes))
+spread-exact size o m g = let f = fitted-done o m (spread m) (ap isDone g) in rw (f .inner) (exact o m (f .sound-bytes))

@@ -1,66 +1,75 @@
 -- The three tables of the words as one: what is recorded of flows and of both kinds of access, and what an effect leaves recorded.
 -- Assumes nothing.
 use mathlib.Core.Path.{_≡_, refl, sym, _∙_}
-use mathlib.Core.Bool.{Bool, true, not, _&&_, and-eq-true-iff}
+use mathlib.Core.Bool.{Bool, true, not, _&&_, _||_, and-eq-true-iff}
 use mathlib.Core.Logic.{_⊎_, inl, inr, ⊎-elim}
-use Prim.Native.Nat.{ℕ, _*_, _<_}
-use native.Mathlib.Omega.{arith}
+use Prim.Native.Nat.{ℕ, _<_}
 use lib.Dec.{eqb}
 use borrow.Author.Tests.{eqb-true}
 use Rattle.bits.specs.AllLaws.{or-cases}
 use Rattle.rows.specs.Rows.{cell, addCell}
-use Rattle.rows.specs.RowLaws.{cell-add}
-use Rattle.records.specs.Records.{numbers}
-use Rattle.model.specs.State.{Memory, rowSize, tables, flowRow, readRow, writeRow, hasFlow, hasRead, hasWrite}
-use Rattle.model.specs.Effects.{clear, withWords, effect}
-use Rattle.model.specs.EffectLaws.{Long, flow-after, read-after, write-after}
+use Rattle.rows.specs.Size.{Size, rowSizeOf, numbersOf}
+use Rattle.model.specs.State.{MemoryOf, flowRow, readRow, writeRow, hasFlow, hasRead, hasWrite}
+use Rattle.model.specs.Effects.{Effect, flow, read-access, write-access, clear, withWords, effect}
+use Rattle.model.specs.EffectLaws.{Long, Fits, cellAfter, flow-after, read-after, write-after}
 
 pub data Table : Type 0 where
   flows : Table
   reads : Table
   writes : Table
 
-abbrev pub row : Table → ℕ → ℕ
-row flows x = flowRow x
-row reads x = readRow x
-row writes x = writeRow x
+abbrev pub row : Size → Table → ℕ → ℕ
+row size flows x = flowRow x
+row size reads x = readRow size x
+row size writes x = writeRow size x
 
 -- a flow or an access of x to y is recorded there: hasFlow, hasRead or hasWrite
-abbrev pub has : Table → Memory → ℕ → ℕ → Bool
-has t m x y = cell rowSize (m .words) (row t x) y
+abbrev pub has : {size : Size} → Table → MemoryOf size → ℕ → ℕ → Bool
+has {size} t m x y = cell (rowSizeOf size) (m .words) (row size t x) y
 
-row-below : (t : Table) (x : ℕ) → x < numbers → row t x < numbers * tables
-row-below flows x l = omega arith
-row-below reads x l = omega arith
-row-below writes x l = omega arith
+-- the number of a table, and the effect that records x and y there
+index : Table → ℕ
+index flows = 0
+index reads = 1
+index writes = 2
 
-same-row : (s t : Table) (x y : ℕ) → x < numbers → y < numbers → row s x ≡ row t y → (s ≡ t) × (x ≡ y)
-same-row flows flows x y a b e = (refl, e)
-same-row flows reads x y a b e = absurd (omega arith)
-same-row flows writes x y a b e = absurd (omega arith)
-same-row reads flows x y a b e = absurd (omega arith)
-same-row reads reads x y a b e = (refl, omega arith)
-same-row reads writes x y a b e = absurd (omega arith)
-same-row writes flows x y a b e = absurd (omega arith)
-same-row writes reads x y a b e = absurd (omega arith)
-same-row writes writes x y a b e = (refl, omega arith)
+abbrev recording : Table → ℕ → ℕ → Effect
+recording flows x y = flow x y
+recording reads x y = read-access x y
+recording writes x y = write-access x y
 
--- what is recorded after x and y are, was recorded or is that
-pub has-added : (t : Table) (x y : ℕ) (m : Memory) → Long m → x < numbers → y < numbers → (s : Table) (u v : ℕ) → u < numbers → v < numbers
-    → has s (withWords m (addCell rowSize (m .words) (row t x) y)) u v ≡ true → (has s m u v ≡ true) ⊎ ((s ≡ t) × (u ≡ x) × (v ≡ y))
-has-added t x y m l lx ly s u v lu lv h =
-    ⊎-elim (λ e. inl e) new
-    (or-cases (has s m u v) (eqb (row s u) (row t x) && eqb v y) (sym (cell-add rowSize (m .words) (row t x) y (row s u) v (omega (arith, row-below t x lx, l .words-long)) ly lv) ∙ h))
-  where
-    new : (eqb (row s u) (row t x) && eqb v y) ≡ true → (has s m u v ≡ true) ⊎ ((s ≡ t) × (u ≡ x) × (v ≡ y))
-    new e =
-        let d = simp and-eq-true-iff at e in
-        let r = same-row s t u x lu lx (eqb-true _ _ (d .0)) in
-        inr (r .0, r .1, eqb-true v y (d .1))
+module _ {size : Size} (m : MemoryOf size) (l : Long m) (u v : ℕ) (lu : u < numbersOf size) (lv : v < numbersOf size) where
+  has-after : (e : Effect) → Fits size e → (s : Table) → has s (effect e m) u v ≡ cellAfter (index s) u v e (has s m u v)
+  unfolding hasFlow hasRead hasWrite index
+  has-after e f flows = flow-after u v lu lv e m l f
+  has-after e f reads = read-after u v lu lv e m l f
+  has-after e f writes = write-after u v lu lv e m l f
 
-pub has-clear : (x : ℕ) (m : Memory) → Long m → x < numbers → (t : Table) (u v : ℕ) → u < numbers → v < numbers
-    → has t (effect (clear x) m) u v ≡ (has t m u v && not (eqb u x) && not (eqb v x))
-unfolding hasFlow hasRead hasWrite
-has-clear x m l lx flows u v lu lv = flow-after u v lu lv (clear x) m l lx
-has-clear x m l lx reads u v lu lv = read-after u v lu lv (clear x) m l lx
-has-clear x m l lx writes u v lu lv = write-after u v lu lv (clear x) m l lx
+  pub has-clear : (x : ℕ) → x < numbersOf size → (s : Table) → has s (effect (clear x) m) u v ≡ (has s m u v && not (eqb u x) && not (eqb v x))
+  has-clear x lx s = has-after (clear x) lx s
+
+  module _ (x y : ℕ) (lx : x < numbersOf size) (ly : y < numbersOf size) where
+    here : (s : Table) → (has s m u v || (eqb u x && eqb v y)) ≡ true → (has s m u v ≡ true) ⊎ ((s ≡ s) × (u ≡ x) × (v ≡ y))
+    here s h =
+        ⊎-elim (λ e. inl e) (λ e. let d = simp and-eq-true-iff at e in inr (refl, eqb-true u x (d .0), eqb-true v y (d .1)))
+        (or-cases (has s m u v) (eqb u x && eqb v y) h)
+
+    added : (s t : Table) → cellAfter (index s) u v (recording t x y) (has s m u v) ≡ true → (has s m u v ≡ true) ⊎ ((s ≡ t) × (u ≡ x) × (v ≡ y))
+    unfolding index
+    added flows flows h = here flows h
+    added reads reads h = here reads h
+    added writes writes h = here writes h
+    added flows reads h = inl h
+    added flows writes h = inl h
+    added reads flows h = inl h
+    added reads writes h = inl h
+    added writes flows h = inl h
+    added writes reads h = inl h
+
+    -- what is recorded after x and y are, was recorded or is that
+    pub has-added : (s t : Table) → has s (withWords m (addCell (rowSizeOf size) (m .words) (row size t x) y)) u v ≡ true
+        → (has s m u v ≡ true) ⊎ ((s ≡ t) × (u ≡ x) × (v ≡ y))
+    unfolding effect
+    has-added s flows h = added s flows (sym (has-after (flow x y) (lx, ly) s) ∙ h)
+    has-added s reads h = added s reads (sym (has-after (read-access x y) (lx, ly) s) ∙ h)
+    has-added s writes h = added s writes (sym (has-after (write-access x y) (lx, ly) s) ∙ h)
