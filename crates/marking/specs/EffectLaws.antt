@@ -7,11 +7,11 @@ use mathlib.Core.List.{List}
 use Prim.Native.Nat.{ℕ, _<_}
 use native.Mathlib.Omega.{arith}
 use lib.Dec.{eqb}
-use lib.ListN.{length}
 use borrow.Author.Tests.{eqb-true, eqb-false}
 use Rattle.bits.specs.AllLaws.{either, or-false}
 use Rattle.levels.specs.declared.Order.{Order}
-use Rattle.records.specs.Records.{numbers, field, setField, kind, isObject, sound}
+use Rattle.rows.specs.Size.{present, numbers}
+use Rattle.records.specs.Records.{BytesLent, field, setField, kind, isObject, sound}
 use Rattle.records.specs.RecordLaws.{object-facts, field-same, field-else, length-field}
 use Rattle.model.specs.State.{Memory, memory, inUse, task, object, marked}
 use Rattle.model.specs.Verdicts.{granted, row-number, row-still, isDone}
@@ -22,13 +22,13 @@ use Rattle.marking.specs.Plain.{Plain}
 use Rattle.marking.specs.MarksLaws.{Marks, marks-same, marks-where, marks-then, marks-store}
 
 pub sound-plain : (o : Order) (bs : List ℕ) → sound o bs ≡ true → Plain bs
-sound-plain o bs s x k = object-facts o bs s x k .marking
+sound-plain o bs s x k = object-facts present o bs s x k .marking
 
 -- equal tests mark the same
 where-ext : (p q : ℕ → Bool) (m : Memory) → Sized m → ((x : ℕ) → x < numbers → p x ≡ q x) → markWhere p m ≡ markWhere q m
 where-ext p q m h e = marks-same h (marks-where p m h) (marks-where q m h) (λ x l d. e x l)
 
-module _ (bs ws : List ℕ) (x : ℕ) (h : length bs ≡ 1024) where
+module _ (bs ws : List ℕ) (x : ℕ) (h : BytesLent bs) where
   -- a store to the marks changes no kind and no driver
   object-else : (v d y : ℕ) → objectOf (memory (setField bs x 5 v) ws) d y ≡ objectOf (memory bs ws) d y
   unfolding objectOf object isObject

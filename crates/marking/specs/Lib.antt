@@ -1,8 +1,7 @@
 pub mod Sets
 pub mod WordLaws
-pub mod SetLaws
 pub mod WalkLaws
-pub mod Reports
+pub mod SetLaws
 pub mod ReportLaws
 pub mod FirstLaws
 pub mod Plain

@@ -12,7 +12,8 @@ use lib.Seq.{ext-getD, set-getD}
 use borrow.Author.Tests.{eqb-true, eqb-false, eq-eqb, ne-eqb, not-false, leb-true, le-leb, lt-leb}
 use Rattle.bits.specs.All.{one}
 use Rattle.bits.specs.AllLaws.{either, both-ways, and-true, and-false, or-false}
-use Rattle.records.specs.Records.{numbers, field, setField}
+use Rattle.rows.specs.Size.{numbers}
+use Rattle.records.specs.Records.{BytesLent, field, setField}
 use Rattle.records.specs.RecordLaws.{field-same, field-else, length-field}
 use Rattle.model.specs.State.{Memory, memory, marked}
 use Rattle.model.specs.Effects.{markWhere, objectOf}
@@ -84,7 +85,7 @@ marks-where p m h = record { more = where-more p m; new = λ x l e. go x l e (ei
 
 -- a store of a mark
 module _ (bs ws : List ℕ) (x : ℕ) where
-  pub marks-store : length bs ≡ 1024 → x < numbers → getD bs (8 * x + 5) 0 ≡ 0 → Marks (memory bs ws) (λ y. eqb y x) (memory (set bs (8 * x + 5) 1) ws)
+  pub marks-store : BytesLent bs → x < numbers → getD bs (8 * x + 5) 0 ≡ 0 → Marks (memory bs ws) (λ y. eqb y x) (memory (set bs (8 * x + 5) 1) ws)
   unfolding setField field marked
   marks-store h l e =
       record {
@@ -111,7 +112,7 @@ module _ (bs ws : List ℕ) (x : ℕ) where
       }
 
   -- a store over marks of 0 or 1
-  pub marks-over : length bs ≡ 1024 → x < numbers → (field bs x 5 ≡ 0) ⊎ (field bs x 5 ≡ 1) → Marks (memory bs ws) (λ y. eqb y x) (memory (set bs (8 * x + 5) 1) ws)
+  pub marks-over : BytesLent bs → x < numbers → (field bs x 5 ≡ 0) ⊎ (field bs x 5 ≡ 1) → Marks (memory bs ws) (λ y. eqb y x) (memory (set bs (8 * x + 5) 1) ws)
   unfolding field
   marks-over h l (inl e) = marks-store h l e
   marks-over h l (inr e) =

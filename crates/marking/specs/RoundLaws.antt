@@ -8,8 +8,8 @@ use Prim.Native.Nat.{ℕ, _<_}
 use borrow.Author.Tests.{eqb-true, eq-eqb, not-true}
 use Rattle.bits.specs.All.{anyB}
 use Rattle.bits.specs.AllLaws.{either, both-ways, and-i, and-l, and-true, and-false, or-cases, or-l, or-r, any-i, any-at}
+use Rattle.rows.specs.Size.{rowSize, numbers}
 use Rattle.rows.specs.Rows.{cell}
-use Rattle.records.specs.Records.{numbers}
 use Rattle.model.specs.State.{Memory, inUse, object, driverOf, marked, hasFlow}
 use Rattle.model.specs.Effects.{objectOf}
 use Rattle.model.specs.Spread.{reached, driven, round}
@@ -30,30 +30,30 @@ pub record Sources (v : Memory) (q : ℕ → Bool) : Type 0 where
 
 module _ (v : Memory) (ws : List ℕ) (q : ℕ → Bool) where
   abbrev flowed : ℕ → Bool
-  flowed x = byFlow (v .words) ws (unmarked v) q x
+  flowed x = byFlow rowSize (v .words) ws (unmarked v) q x
 
   abbrev owned : ℕ → Bool
-  owned x = byDriver (v .words) ws (unmarked v) q x
+  owned x = byDriver rowSize (v .words) ws (unmarked v) q x
 
   module _ (h : Sized v) (t : Table v ws) (s : Sources v q) where
     flow-is : (x : ℕ) → x < numbers → flowed x ≡ reached v x
     unfolding byFlow joined reached hasFlow
     flow-is x l = both-ways _ _ there back
       where
-        there : (anyB 128 (λ y. q y && cell 2 (v .words) y x) && unmarked v x) ≡ true → reached v x ≡ true
+        there : (anyB numbers (λ y. q y && cell rowSize (v .words) y x) && unmarked v x) ≡ true → reached v x ≡ true
         there e =
             let p = simp and-eq-true-iff at e in
-            let a = any-at 128 _ (p .0) in
+            let a = any-at numbers _ (p .0) in
             let b = simp and-eq-true-iff at (a .2) in
-            and-i (and-i (p .1 .1) (p .1 .0)) (any-i 128 _ (a .0) (a .1) (and-i (s .are (a .0) (a .1) (b .0)) (b .1)))
+            and-i (and-i (p .1 .1) (p .1 .0)) (any-i numbers _ (a .0) (a .1) (and-i (s .are (a .0) (a .1) (b .0)) (b .1)))
 
-        back : reached v x ≡ true → (anyB 128 (λ y. q y && cell 2 (v .words) y x) && unmarked v x) ≡ true
+        back : reached v x ≡ true → (anyB numbers (λ y. q y && cell rowSize (v .words) y x) && unmarked v x) ≡ true
         back e =
             let p = simp and-eq-true-iff at e in
-            let a = any-at 128 _ (p .1) in
+            let a = any-at numbers _ (p .1) in
             let b = simp and-eq-true-iff at (a .2) in
             ⊎-elim
-            (λ d. and-i (any-i 128 _ (a .0) (a .1) (and-i d (b .1))) (and-i (p .0 .1) (p .0 .0)))
+            (λ d. and-i (any-i numbers _ (a .0) (a .1) (and-i d (b .1))) (and-i (p .0 .1) (p .0 .0)))
             (λ d. absurd (true≢false (sym (s .old-flow x (a .0) l (a .1) (b .0) d (p .0 .1) (b .1)) ∙ not-true _ (p .0 .0))))
             (either (q (a .0)))
 
@@ -64,17 +64,17 @@ module _ (v : Memory) (ws : List ℕ) (q : ℕ → Bool) where
         g : MoreMarks v (byFlows v)
         g = where-more (reached v) v
 
-        there : (anyB 128 (λ y. ((q y || flowed y) && cell 2 ws 128 y) && cell 2 ws y x) && unmarked v x) ≡ true → driven (byFlows v) x ≡ true
+        there : (anyB numbers (λ y. ((q y || flowed y) && cell rowSize ws numbers y) && cell rowSize ws y x) && unmarked v x) ≡ true → driven (byFlows v) x ≡ true
         there e =
             let p = simp and-eq-true-iff at e in
-            let a = any-at 128 _ (p .0) in
+            let a = any-at numbers _ (p .0) in
             let b = simp and-eq-true-iff at (a .2) in
             let o = simp and-eq-true-iff at (sym (t .owns (a .0) x (a .1) l n) ∙ b .1) in
             and-i (kept-object g x ∙ o .0)
             (ap (marked (byFlows v)) (kept-driver g x ∙ eqb-true _ _ (o .1)) ∙ marked-flows v h (a .0) (a .1)
             ∙ ⊎-elim (λ c. or-l _ _ (s .are (a .0) (a .1) c)) (λ c. or-r (marked v (a .0)) _ (sym (flow-is (a .0) (a .1)) ∙ c)) (or-cases (q (a .0)) (flowed (a .0)) (b .0 .0)))
 
-        back : driven (byFlows v) x ≡ true → (anyB 128 (λ y. ((q y || flowed y) && cell 2 ws 128 y) && cell 2 ws y x) && unmarked v x) ≡ true
+        back : driven (byFlows v) x ≡ true → (anyB numbers (λ y. ((q y || flowed y) && cell rowSize ws numbers y) && cell rowSize ws y x) && unmarked v x) ≡ true
         back e =
             let p = simp and-eq-true-iff at e in
             let d = driverOf v x in
@@ -85,7 +85,7 @@ module _ (v : Memory) (ws : List ℕ) (q : ℕ → Bool) where
             let old : q d ≡ false → marked v d ≡ true → ⊥ = λ f c. true≢false (sym (s .old-object x d l k c f own) ∙ n) in
             let feeds : (q d || flowed d) ≡ true = ⊎-elim
             (λ c. ⊎-elim (λ f. or-l _ _ f) (λ f. absurd (old f c)) (either (q d))) (λ c. or-r (q d) _ (flow-is d k ∙ c)) (or-cases (marked v d) (reached v d) (sym (marked-flows v h d k) ∙ m)) in
-            and-i (any-i 128 _ d k (and-i (and-i feeds (t .drives d x k l n own)) (t .owns d x k l n ∙ own))) (and-i (object-used v x o) (ap not n))
+            and-i (any-i numbers _ d k (and-i (and-i feeds (t .drives d x k l n own)) (t .owns d x k l n ∙ own))) (and-i (object-used v x o) (ap not n))
 
     new-is : (x : ℕ) → x < numbers → marked v x ≡ false → (flowed x || owned x) ≡ (marked (round v) x && not (marked v x))
     new-is x l n = rw (flow-is x l, driver-is x l n, marked-round v h x l, n) (sym (and-true _))
@@ -111,7 +111,7 @@ next-sources v h q e =
     record {
       are = λ y l c. and-l (marked (round v) y) _ (sym (e y l) ∙ c);
       old-flow = λ x y lx ly m f u c.
-          fed x lx (λ n. or-l _ _ (or-r (marked v x) _ (and-i (and-i (ap not n) (sym (kept-inUse g x) ∙ u)) (any-i 128 _ y ly (and-i (was y ly m f) (sym (kept-flow g y x) ∙ c))))));
+          fed x lx (λ n. or-l _ _ (or-r (marked v x) _ (and-i (and-i (ap not n) (sym (kept-inUse g x) ∙ u)) (any-i numbers _ y ly (and-i (was y ly m f) (sym (kept-flow g y x) ∙ c))))));
       old-object = λ x y lx ly m f c.
           let o = simp and-eq-true-iff at (sym (kept-objectOf g y x) ∙ c) in
           fed x lx (λ n. or-r (marked v x || reached v x) _ (and-i (kept-object b x ∙ o .0) (ap (marked (byFlows v)) (kept-driver b x ∙ eqb-true _ _ (o .1)) ∙ kept-marked b y (was y ly m f))));

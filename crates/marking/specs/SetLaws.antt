@@ -1,21 +1,23 @@
--- Laws of sets in two words.
+-- Laws of sets: those of words and of rows, at the words that a set has.
 -- Assumes nothing.
 use mathlib.Core.Path.{_≡_, refl, sym, ap, ap₂, _∙_}
-use mathlib.Core.Logic.{_⊎_, inl, inr, ⊎-elim}
-use mathlib.Core.Bool.{Bool, true, false, not, cond, _&&_, _||_, and-eq-true-iff, true≢false}
-use Prim.Native.Nat.{ℕ, _+_, _-_, _^_, _≤_, _<_}
-use native.Mathlib.Nat.{zero-add}
-use native.Mathlib.Omega.{arith}
+use mathlib.Core.Bool.{Bool, true, false, not, _&&_, _||_}
+use mathlib.Core.List.{List, [], _∷_}
+use Prim.Native.Nat.{ℕ, _+_, _-_, _*_, _^_, _<_}
+use native.Mathlib.Nat.{add-zero}
 use lib.Bits.{bitAnd, bitOr, and-lt, or-lt}
-use lib.Dec.{eqb, ltb}
+use lib.Dec.{eqb}
+use lib.ListN.{getD}
 use lib.Pow.{ones-sub-lt}
-use borrow.Author.Tests.{eqb-true, eq-eqb, ltb-true, ltb-false, lt-ltb, le-ltb, not-true}
-use Rattle.bits.specs.Bit.{bit, wordOf}
-use Rattle.bits.specs.BitLaws.{bit-ext, bit-zero, bit-and, bit-or, bit-not, bit-word, word-is, word-lt}
-use Rattle.bits.specs.All.{anyB}
-use Rattle.bits.specs.AllLaws.{either, both-ways, not-so, and-i, any-i, any-ext, any-false}
+use Rattle.bits.specs.Bit.{bit, wordOf, inWords, wordsOf, wordsBy}
+use Rattle.bits.specs.BitLaws.{bit-ext, bit-and, bit-or, bit-not}
+use Rattle.bits.specs.WordsLaws.{Fit, fit-none, fit-more, in-zeros, none-in, in-words, words-are, words-ext, in-each}
+use Rattle.bits.specs.All.{allB, anyB}
+use Rattle.rows.specs.Size.{rowSize, numbers}
+use Rattle.rows.specs.Rows.{cell}
 use Rattle.marking.specs.declared.sets.Set.{Set}
-use Rattle.marking.specs.Sets.{has, setOf}
+use Rattle.marking.specs.Sets.{words, ofWords, has, setOf, inWord, joined}
+use Rattle.marking.specs.WalkLaws.{in-some, someOf, some-ext, some-or, in-row}
 
 abbrev pub pair : ℕ → ℕ → Set
 pair a b = record { low = a; high = b }
@@ -24,69 +26,54 @@ pair a b = record { low = a; high = b }
 abbrev pub turned : ℕ → ℕ → Set
 turned a b = pair a ((2 ^ 64 - 1) - b)
 
--- both are words
-pub record Fits (s : Set) : Type 0 where
-  pub low : s .low < 2 ^ 64
-  pub high : s .high < 2 ^ 64
-
-pub set-fits : (p : ℕ → Bool) → Fits (setOf p)
-unfolding setOf
-set-fits p = record { low = word-lt p; high = word-lt _ }
-
-pub has-low : (s : Set) (i : ℕ) → i < 64 → has s i ≡ bit (s .low) i
-unfolding has
-has-low s i l = rw (lt-ltb i 64 l)
-
-pub has-high : (s : Set) (i : ℕ) → i < 64 → has s (64 + i) ≡ bit (s .high) i
-unfolding has
-has-high s i l =
-    let e : 64 + i - 64 ≡ i = omega arith in
-    let n : ltb (64 + i) 64 ≡ false = le-ltb (64 + i) 64 (omega arith) in
-    rw (n, e)
+pub fits : {a b : ℕ} → a < 2 ^ 64 → b < 2 ^ 64 → Fit (a ∷ b ∷ [])
+fits f h = fit-more f (fit-more h fit-none)
 
 -- ---- a set is that of its numbers
 
-pub set-is : (p : ℕ → Bool) (s : Set) → Fits s → ((x : ℕ) → x < 128 → has s x ≡ p x) → s ≡ setOf p
-unfolding setOf
-set-is p s f e =
-    let low = word-is p (s .low) (f .low) (λ i l. sym (has-low s i l) ∙ e i (omega arith)) in
-    let high = word-is (λ i. p (64 + i)) (s .high) (f .high) (λ i l. sym (has-high s i l) ∙ e (64 + i) (omega arith)) in
-    λ i. record { low = low i; high = high i }
-
-pub has-set : (p : ℕ → Bool) (x : ℕ) → x < 128 → has (setOf p) x ≡ p x
+pub set-is : (p : ℕ → Bool) (s : Set) → Fit (words s) → ((x : ℕ) → x < numbers → has s x ≡ p x) → s ≡ setOf p
 unfolding has setOf
-has-set p x l = go (either (ltb x 64))
-  where
-    go : (ltb x 64 ≡ true) ⊎ (ltb x 64 ≡ false) → cond (ltb x 64) (bit (wordOf p) x) (bit (wordOf (λ i. p (64 + i))) (x - 64)) ≡ p x
-    go (inl e) = rw e (bit-word p x (ltb-true x 64 e))
-    go (inr e) =
-        let h : 64 ≤ x = ltb-false x 64 e in
-        let f : 64 + (x - 64) ≡ x = omega arith in
-        rw e (bit-word (λ i. p (64 + i)) (x - 64) (omega arith) ∙ ap p f)
+set-is p s f e = ap ofWords (words-are rowSize p (words s) refl f e)
 
-pub in-set : (p : ℕ → Bool) {s : Set} → s ≡ setOf p → (x : ℕ) → x < 128 → has s x ≡ p x
-in-set p e x l = ap (λ (s : Set). has s x) e ∙ has-set p x l
+pub set-words : (p : ℕ → Bool) {s : Set} → s ≡ setOf p → words s ≡ wordsOf rowSize p
+unfolding setOf wordsOf wordsBy
+set-words p e = ap words e
 
-pub set-ext : (p q : ℕ → Bool) → ((x : ℕ) → x < 128 → p x ≡ q x) → setOf p ≡ setOf q
-set-ext p q e = set-is q (setOf p) (set-fits p) (λ x l. has-set p x l ∙ e x l)
+pub in-set : (p : ℕ → Bool) {s : Set} → s ≡ setOf p → (x : ℕ) → x < numbers → has s x ≡ p x
+unfolding has
+in-set p e x l = ap (λ (ws : List ℕ). inWords ws x) (set-words p e) ∙ in-words rowSize p x l
 
--- a set by its two words
-pub set-pair : (p : ℕ → Bool) {a b : ℕ} → a ≡ wordOf (λ i. p (0 + i)) → b ≡ wordOf (λ i. p (64 + i)) → pair a b ≡ setOf p
+pub set-ext : (p q : ℕ → Bool) → ((x : ℕ) → x < numbers → p x ≡ q x) → setOf p ≡ setOf q
 unfolding setOf
-set-pair p e f =
-    let low = e ∙ word-is p _ (word-lt _) (λ i l. bit-word (λ i. p (0 + i)) i l ∙ ap p (zero-add i)) in
-    λ i. record { low = low i; high = f i }
+set-ext p q e = ap ofWords (words-ext rowSize p q e)
 
--- ---- an operation on the words that acts on each bit
+-- a set word by word
+pub set-pair : (p : ℕ → Bool) {a b : ℕ} → a ≡ wordOf (λ i. p (0 + i)) → b ≡ wordOf (λ i. p (64 + i)) → pair a b ≡ setOf p
+unfolding setOf wordsOf wordsBy
+set-pair p e f = ap₂ pair e f
 
+pub has-words : (s : Set) → Fit (words s) → (y : ℕ) → y < numbers → has s y ≡ (inWord (s .low) 0 y || inWord (s .high) 64 y)
+unfolding has anyB
+has-words s f y l = in-some rowSize (words s) f y l
+
+pub some-words : (p : ℕ → Bool) (a : Bool) (s : Set) → Fit (words s)
+    → ((a || someOf numbers p (inWord (s .low) 0)) || someOf numbers p (inWord (s .high) 64)) ≡ (a || someOf numbers p (has s))
+some-words p a s f = some-or numbers p a (inWord (s .low) 0) (inWord (s .high) 64) ∙ ap (λ (b : Bool). a || b) (some-ext numbers p _ (has s) (λ y l. sym (has-words s f y l)))
+
+-- no number is in a set of zero words, and some number is in any other
+pub empty-is : (s : Set) → Fit (words s) → (eqb (s .low) 0 && eqb (s .high) 0) ≡ not (anyB numbers (has s))
+unfolding has allB
+empty-is s f = none-in rowSize (words s) f
+
+-- an operation on the words that acts on each bit
 module _ (op : Bool → Bool → Bool) (g : ℕ → ℕ → ℕ) (bit-g : (a b i : ℕ) → b < 2 ^ 64 → i < 64 → bit (g a b) i ≡ op (bit a i) (bit b i))
     (g-lt : (a b : ℕ) → a < 2 ^ 64 → b < 2 ^ 64 → g a b < 2 ^ 64) where
-  pub each-bit : (a b : Set) → Fits a → Fits b → pair (g (a .low) (b .low)) (g (a .high) (b .high)) ≡ setOf (λ x. op (has a x) (has b x))
-  unfolding setOf
-  each-bit a b fa fb =
-      let low = word-is (λ x. op (has a x) (has b x)) _ (g-lt _ _ (fa .low) (fb .low)) (λ i l. bit-g _ _ i (fb .low) l ∙ ap₂ op (sym (has-low a i l)) (sym (has-low b i l))) in
-      let high = word-is (λ i. op (has a (64 + i)) (has b (64 + i))) _ (g-lt _ _ (fa .high) (fb .high)) (λ i l. bit-g _ _ i (fb .high) l ∙ ap₂ op (sym (has-high a i l)) (sym (has-high b i l))) in
-      λ i. record { low = low i; high = high i }
+  pub each-bit : (a b : Set) → Fit (words a) → Fit (words b) → pair (g (a .low) (b .low)) (g (a .high) (b .high)) ≡ setOf (λ x. op (has a x) (has b x))
+  unfolding has wordsBy
+  each-bit a b f h =
+      set-is _ _ (fits (g-lt _ _ (f .word 0) (h .word 0)) (g-lt _ _ (f .word 1) (h .word 1))) (λ x l. in-each op g bit-g rowSize (words a) (words b) h x l)
+
+-- ---- rows as sets
 
 -- a word joined to another that is kept as its complement a
 join-not : (a w : ℕ) → a < 2 ^ 64 → w < 2 ^ 64 → (2 ^ 64 - 1) - bitAnd a ((2 ^ 64 - 1) - w) ≡ bitOr ((2 ^ 64 - 1) - a) w
@@ -101,31 +88,23 @@ join-not a w h k =
     both true false = refl
     both false q = refl
 
-pub has-join : (a b c d x : ℕ) → b < 2 ^ 64 → d < 2 ^ 64 → has (turned (bitOr a c) (bitAnd b ((2 ^ 64 - 1) - d))) x ≡ (has (turned a b) x || has (pair c d) x)
-unfolding has
-has-join a b c d x h k =
-    ⊎-elim (λ e. rw e (bit-or a c x)) (λ e. rw e (ap (λ (w : ℕ). bit w (x - 64)) (join-not b d h k) ∙ bit-or _ d (x - 64))) (either (ltb x 64))
+module _ (ws : List ℕ) where
+  pub has-row : (z x : ℕ) → x < numbers → has (pair (getD ws (rowSize * z) 0) (getD ws (rowSize * z + 1) 0)) x ≡ cell rowSize ws z x
+  unfolding has wordsBy
+  has-row z x l = ap (λ (k : ℕ). inWords (getD ws k 0 ∷ getD ws (rowSize * z + 1) 0 ∷ []) x) (sym (add-zero (rowSize * z))) ∙ in-row rowSize ws z x l
 
-pub has-empty : (x : ℕ) → has (pair 0 0) x ≡ false
-unfolding has
-has-empty x = ⊎-elim (λ e. rw e (bit-zero x)) (λ e. rw e (bit-zero (x - 64))) (either (ltb x 64))
+  -- row z joined to a set whose high word is kept as its complement
+  pub has-join : Fit ws → (a b z x : ℕ) → b < 2 ^ 64 → x < numbers
+      → has (turned (bitOr a (getD ws (rowSize * z) 0)) (bitAnd b ((2 ^ 64 - 1) - getD ws (rowSize * z + 1) 0))) x ≡ (has (turned a b) x || cell rowSize ws z x)
+  unfolding has wordsBy
+  has-join f a b z x h l =
+      let row = pair (getD ws (rowSize * z) 0) (getD ws (rowSize * z + 1) 0) in
+      ap (λ (w : ℕ). has (pair (bitOr a (row .low)) w) x) (join-not b (row .high) h (f .word _))
+      ∙ in-each (λ p q. p || q) bitOr (λ u v i k m. bit-or u v i) rowSize (words (turned a b)) (words row) (fits (f .word _) (f .word _)) x l
+      ∙ ap (λ (q : Bool). has (turned a b) x || q) (has-row z x l)
 
--- no number is in a set of two zero words, and some number is in any other
-pub empty-is : (s : Set) → Fits s → (eqb (s .low) 0 && eqb (s .high) 0) ≡ not (anyB 128 (λ x. has s x))
-empty-is s f = both-ways _ _ there back
-  where
-    there : (eqb (s .low) 0 && eqb (s .high) 0) ≡ true → not (anyB 128 (λ x. has s x)) ≡ true
-    there e =
-        let p = simp and-eq-true-iff at e in
-        let low : s .low ≡ 0 = eqb-true _ 0 (p .0) in
-        let high : s .high ≡ 0 = eqb-true _ 0 (p .1) in
-        ap not (any-ext 128 _ _ (λ x l. rw (ap₂ pair low high) (has-empty x)) ∙ any-false 128)
-
-    back : not (anyB 128 (λ x. has s x)) ≡ true → (eqb (s .low) 0 && eqb (s .high) 0) ≡ true
-    back e = and-i (eq-eqb _ 0 (none (s .low) (f .low) (λ i l. sym (has-low s i l) ∙ out i (omega arith)))) (eq-eqb _ 0 (none (s .high) (f .high) (λ i l. sym (has-high s i l) ∙ out (64 + i) (omega arith))))
-      where
-        out : (x : ℕ) → x < 128 → has s x ≡ false
-        out x l = not-so _ (λ h. true≢false (sym (any-i 128 (λ x. has s x) x l h) ∙ not-true _ e))
-
-        none : (w : ℕ) → w < 2 ^ 64 → ((i : ℕ) → i < 64 → bit w i ≡ false) → w ≡ 0
-        none w h b = bit-ext 64 w 0 h (omega arith) (λ i l. b i l ∙ sym (bit-zero i))
+  -- the rows of a set's numbers, word by word
+  pub joined-words : (s : Set) → Fit (words s) → (x : ℕ) → x < numbers
+      → ((has (pair 0 0) x || joined rowSize ws (inWord (s .low) 0) x) || joined rowSize ws (inWord (s .high) 64) x) ≡ joined rowSize ws (has s) x
+  unfolding has joined
+  joined-words s f x l = rw (in-zeros rowSize x) (some-words (λ y. cell rowSize ws y x) false s f)

@@ -1,26 +1,39 @@
--- Sets of numbers in two words.
+-- Sets of numbers, a bit for each, in two words, as many as a row has at the size in use.
 -- Assumes nothing.
-use mathlib.Core.Bool.{Bool, cond, _&&_}
-use mathlib.Core.List.{List}
-use Prim.Native.Nat.{ℕ, _+_, _-_}
-use lib.Dec.{leb, ltb}
-use Rattle.bits.specs.Bit.{bit, wordOf}
+use mathlib.Core.Bool.{Bool, _&&_}
+use mathlib.Core.List.{List, [], _∷_}
+use Prim.Native.Nat.{ℕ, _-_, _*_, _≤_}
+use lib.Dec.{leb}
+use lib.ListN.{getD, length}
+use Rattle.bits.specs.Bit.{bit, inWords, wordsOf}
 use Rattle.bits.specs.All.{anyB}
+use Rattle.rows.specs.Size.{rowSize, numbers}
 use Rattle.rows.specs.Rows.{cell}
 use Rattle.marking.specs.declared.sets.Set.{Set}
 
--- x < 128 is in the set
+-- the words of a set, and the set of such words
+abbrev pub words : Set → List ℕ
+words s = s .low ∷ s .high ∷ []
+
+abbrev pub ofWords : List ℕ → Set
+ofWords ws = record { low = getD ws 0 0; high = getD ws 1 0 }
+
+-- x is in the set
 unfoldable pub has : Set → ℕ → Bool
-has s x = cond (ltb x 64) (bit (s .low) x) (bit (s .high) (x - 64))
+has s x = inWords (words s) x
 
--- the numbers below 128 that pass
+-- the numbers that pass
 unfoldable pub setOf : (ℕ → Bool) → Set
-setOf p = record { low = wordOf p; high = wordOf (λ i. p (64 + i)) }
+setOf p = ofWords (wordsOf rowSize p)
 
--- y is one of the 64 numbers of a word whose first is n
+-- y is one of the 64 numbers of a word whose first is k
 unfoldable pub inWord : ℕ → ℕ → ℕ → Bool
-inWord w n y = leb n y && bit w (y - n)
+inWord w k y = leb k y && bit w (y - k)
 
--- of a table of rows of two words: the row of some number that passes has column x
-unfoldable pub joined : List ℕ → (ℕ → Bool) → ℕ → Bool
-joined ws q x = anyB 128 (λ y. q y && cell 2 ws y x)
+-- as many words as a table has
+abbrev pub TableLent : List ℕ → Type 0
+TableLent ws = rowSize * numbers ≤ length ws
+
+-- of a table of rows of n words: the row of some number that passes has column x
+unfoldable pub joined : ℕ → List ℕ → (ℕ → Bool) → ℕ → Bool
+joined n ws q x = anyB (64 * n) (λ y. q y && cell n ws y x)

@@ -11,8 +11,8 @@ use borrow.Author.Tests.{not-true}
 use Rattle.bits.specs.All.{anyB, countB}
 use Rattle.bits.specs.AllLaws.{either, any-ext, any-i, any-at, not-so, and-i, and-true, and-false}
 use Rattle.bits.specs.LoopLaws.{count-le}
+use Rattle.rows.specs.Size.{rowSize, numbers}
 use Rattle.rows.specs.Rows.{cell}
-use Rattle.records.specs.Records.{numbers}
 use Rattle.model.specs.State.{Memory, inUse, marked}
 use Rattle.model.specs.StateLaws.{object-used, marked-below}
 use Rattle.model.specs.Effects.{markWhere}
@@ -56,11 +56,11 @@ round-new : (v : Memory) (ws : List ℕ) (left src : Set) → Sized v → Table 
 unfolding roundSet byFlow byDriver
 round-new v ws left src h t s e = set-ext _ _ (λ x l. ap₂ (λ (a b : Bool). a || b) (flow x l) (driver x l) ∙ round-is v ws (has src) h t s x l)
   where
-    flow : (x : ℕ) → x < numbers → byFlow (v .words) ws (has left) (has src) x ≡ byFlow (v .words) ws (unmarked v) (has src) x
-    flow x l = ap (λ (b : Bool). joined (v .words) (has src) x && b) (in-set _ e x l)
+    flow : (x : ℕ) → x < numbers → byFlow rowSize (v .words) ws (has left) (has src) x ≡ byFlow rowSize (v .words) ws (unmarked v) (has src) x
+    flow x l = ap (λ (b : Bool). joined rowSize (v .words) (has src) x && b) (in-set _ e x l)
 
-    driver : (x : ℕ) → x < numbers → byDriver (v .words) ws (has left) (has src) x ≡ byDriver (v .words) ws (unmarked v) (has src) x
-    driver x l = ap₂ (λ (a b : Bool). a && b) (joined-ext ws _ _ x (λ y k. ap (λ (b : Bool). (has src y || b) && cell 2 ws 128 y) (flow y k))) (in-set _ e x l)
+    driver : (x : ℕ) → x < numbers → byDriver rowSize (v .words) ws (has left) (has src) x ≡ byDriver rowSize (v .words) ws (unmarked v) (has src) x
+    driver x l = ap₂ (λ (a b : Bool). a && b) (joined-ext rowSize ws _ _ x (λ y k. ap (λ (b : Bool). (has src y || b) && cell rowSize ws numbers y) (flow y k))) (in-set _ e x l)
 
 -- ---- the loop
 
@@ -115,11 +115,11 @@ module _ (m : Memory) (h : Sized m) (ws : List ℕ) (t : Table m ws) {k : ℕ} {
       r ∙ ap (λ (w : List ℕ). roundSet w ws left src) (sym (s .more .words-kept))
       ∙ round-new (s .now) ws left src sized (table-more (s .more) t) (s .sources) (s .left-is)
 
-  some-is : marksSome (s .now) ≡ anyB 128 (λ x. has new x)
+  some-is : marksSome (s .now) ≡ anyB numbers (has new)
   unfolding marksSome
-  some-is = any-ext 128 _ _ (λ x l. sym (in-set _ new-is x l))
+  some-is = any-ext numbers _ _ (λ x l. sym (in-set _ new-is x l))
 
-  module _ (some : anyB 128 (λ x. has new x) ≡ true) where
+  module _ (some : anyB numbers (has new) ≡ true) where
     marks : marksSome (s .now) ≡ true
     marks = some-is ∙ some
 
@@ -144,7 +144,7 @@ module _ (m : Memory) (h : Sized m) (ws : List ℕ) (t : Table m ws) {k : ℕ} {
           sources = next-sources v sized (has new) (in-set _ new-is);
         }
 
-  pub spreading-end : anyB 128 (λ x. has new x) ≡ false → {before : Set} → before ≡ setOf (λ x. unmarked m x)
+  pub spreading-end : anyB numbers (has new) ≡ false → {before : Set} → before ≡ setOf (λ x. unmarked m x)
       → {all : Set} → all ≡ setOf (λ x. has before x && not (has left x)) → record { marked = all; rounds = k } ≡ spreadSets m
   unfolding spreadSets
   spreading-end none e {all} f =
@@ -206,7 +206,7 @@ still m h c =
     true≢false (sym (round-only _ m m c (more-none m) h (λ x l e. e) (s .0) (s .1) (t .0)) ∙ not-true _ (t .1)))
 
 -- nothing is marked
-pub spread-none : (m : Memory) → Sized m → {src : Set} → src ≡ setOf (marked m) → anyB 128 (λ x. has src x) ≡ false → record { verdict = 0; rounds = 0; memory = m } ≡ spread m
+pub spread-none : (m : Memory) → Sized m → {src : Set} → src ≡ setOf (marked m) → anyB numbers (has src) ≡ false → record { verdict = 0; rounds = 0; memory = m } ≡ spread m
 unfolding spread
 spread-none m h {src} e f =
     let s = still m h (record { by-flow = λ x y q l u f. absurd (none x q); by-driver = λ x y q l o d. absurd (none x q) }) in
@@ -215,10 +215,10 @@ spread-none m h {src} e f =
     λ i. record { verdict = 0; rounds = r i; memory = a i }
   where
     none : (x : ℕ) → marked m x ≡ true → ⊥
-    none x p = let l = marked-below m x h p in true≢false (sym (any-i 128 (λ x. has src x) x l (in-set _ e x l ∙ p)) ∙ f)
+    none x p = let l = marked-below m x h p in true≢false (sym (any-i numbers (has src) x l (in-set _ e x l ∙ p)) ∙ f)
 
 -- all in use are marked
-pub sets-none : (m : Memory) → Sized m → {left : Set} → left ≡ setOf (λ x. unmarked m x) → anyB 128 (λ x. has left x) ≡ false → record { marked = left; rounds = 0 } ≡ spreadSets m
+pub sets-none : (m : Memory) → Sized m → {left : Set} → left ≡ setOf (λ x. unmarked m x) → anyB numbers (has left) ≡ false → record { marked = left; rounds = 0 } ≡ spreadSets m
 unfolding spreadSets
 sets-none m h {left} e f =
     let s = still m h (record { by-flow = λ x y q l u f. all y l u; by-driver = λ x y q l o d. all y l (object-used m y o) }) in
@@ -227,7 +227,7 @@ sets-none m h {left} e f =
     λ i. record { marked = a i; rounds = r i }
   where
     none : (x : ℕ) → x < numbers → unmarked m x ≡ false
-    none x l = not-so _ (λ p. true≢false (sym (any-i 128 (λ x. has left x) x l (in-set _ e x l ∙ p)) ∙ f))
+    none x l = not-so _ (λ p. true≢false (sym (any-i numbers (has left) x l (in-set _ e x l ∙ p)) ∙ f))
 
     all : (x : ℕ) → x < numbers → inUse m x ≡ true → marked m x ≡ true
     all x l u = ⊎-elim (λ p. p) (λ p. absurd (true≢false (sym (and-i u (ap not p)) ∙ none x l))) (either (marked m x))

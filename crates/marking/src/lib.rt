@@ -6,42 +6,30 @@ mod sets;
 use levels::Order;
 use model::Report;
 ghost use mathlib.Core.Path.{_≡_};
-ghost use mathlib.Core.Bool.{true};
 ghost use mathlib.Core.List.{List};
 ghost use Prim.Native.Nat.{ℕ, _-_, _<_};
-ghost use lib.ListN.{length};
 ghost use Rattle.bits.specs.Bit.{bit};
+ghost use Rattle.rows.specs.Size.{present};
 ghost use Rattle.levels.specs.declared.Order.{Order};
-ghost use Rattle.levels.specs.Order.{orderPasses};
-ghost use Rattle.records.specs.Records.{sound};
+ghost use Rattle.records.specs.Records.{BytesLent};
+ghost use Rattle.model.specs.Ready.{Ready};
 ghost use Rattle.model.specs.State.{memory};
 ghost use Rattle.model.specs.Events as model·events;
 ghost use Rattle.model.specs.Events.{left, outcome, verdictOf};
 ghost use Rattle.model.specs.Spread as model·spread;
 ghost use Rattle.model.specs.Monitor as model·monitor;
-ghost use Rattle.model.specs.Monitor.{noReport, firstFrom, nextMarked};
-ghost use Rattle.marking.specs.Reports.{reportOf};
+ghost use Rattle.model.specs.Monitor.{noReport, firstFrom, nextMarked, markedReport};
 
-// The bytes of a record, and where the kind, the driver and the marks stand in it.
-const RECORD_SIZE: usize = 8;
+// Where the kind, the driver and the marks stand in a record.
+const KIND: usize = records::KIND as usize;
 
-const KIND: usize = 0;
+const DRIVER: usize = records::DRIVER as usize;
 
-const DRIVER: usize = 3;
-
-const MARKS: usize = 5;
-
-// How many numbers, and so records, there are.
-const NUMBERS: u16 = 128;
-
-const RECORDS: usize = 128;
-
-// The words of flows and accesses.
-const WORDS: usize = 768;
+const MARKS: usize = records::MARKS as usize;
 
 // A report of nothing, with why.
 fn no_report(verdict: u8) -> Report
-    ensures { λ r. ⌜ r ≡ noReport verdict ⌝ }
+    ensures { λ r. ⌜ r ≡ noReport present verdict ⌝ }
 {
     Report {
         words: [0, 0],
@@ -52,8 +40,8 @@ fn no_report(verdict: u8) -> Report
 
 // A bit for each marked number.
 fn marked_report(bytes: &[u8]) -> Report
-    requires { ⌜ length (now bytes) ≡ 1024 ⌝ }
-    ensures { λ r. ⌜ ((ws : List ℕ) → r ≡ reportOf (memory (now (bytes .entry)) ws)) ⌝ }
+    requires { ⌜ BytesLent (now bytes) ⌝ }
+    ensures { λ r. ⌜ ((ws : List ℕ) → r ≡ markedReport (memory (now (bytes .entry)) ws)) ⌝ }
 {
     let marked = sets::with_field(bytes, MARKS);
     Report {
@@ -67,7 +55,7 @@ fn marked_report(bytes: &[u8]) -> Report
 pub fn report(bytes: &[u8], words: &[u64], order: Order) -> Report
     ensures { λ r. ⌜ r ≡ model·monitor.report order (memory (now (bytes .entry)) (now (words .entry))) ⌝ }
 {
-    if words.len() != WORDS {
+    if words.len() != rows::WORDS {
         return no_report(model::STATE);
     }
     if !records::sound(bytes, order) {
@@ -92,7 +80,7 @@ fn lowest_from(w: u64, i: u16) -> u16
     }
 }
 
-// The lowest marked number of a report at or above `from`, and 128 where there is none.
+// The lowest marked number of a report at or above `from`, and rows::NUMBERS where there is none.
 pub fn next_marked(report: Report, from: u16) -> u16
     ensures { λ r. ⌜ r ≡ nextMarked report from ⌝ }
 {
@@ -104,16 +92,16 @@ pub fn next_marked(report: Report, from: u16) -> u16
         } else {
             64 + lowest_from(words[1], 0)
         }
-    } else if from < NUMBERS {
+    } else if from < rows::NUMBERS {
         64 + lowest_from(words[1], from - 64)
     } else {
-        NUMBERS
+        rows::NUMBERS
     }
 }
 
 // A task is marked from outside, and its objects are marked.
 pub fn mark(bytes: &mut [u8], words: &[u64], order: Order, task: u16) -> u8
-    requires { ⌜ (length (now bytes) ≡ 1024) × (length (now words) ≡ 768) × (orderPasses order ≡ true) × (sound order (now bytes) ≡ true) ⌝ }
+    requires { ⌜ Ready order (now bytes) (now words) ⌝ }
     ensures { λ r. ⌜ left r 0 (now (bytes .exit)) (now (words .entry)) ≡ outcome (memory (now (bytes .entry)) (now (words .entry))) (model·events.mark order (memory (now (bytes .entry)) (now (words .entry))) task) ⌝ }
 {
     if !records::is_task(bytes, task) {
@@ -125,7 +113,7 @@ pub fn mark(bytes: &mut [u8], words: &[u64], order: Order, task: u16) -> u8
 
 // The verdict of a step.
 fn step_verdict(bytes: &[u8], words: &[u64], x: u16) -> u8
-    requires { ⌜ length (now bytes) ≡ 1024 ⌝ }
+    requires { ⌜ BytesLent (now bytes) ⌝ }
     ensures { λ r. ⌜ ((order : Order) → r ≡ verdictOf (model·events.step order (memory (now (bytes .entry)) (now (words .entry))) x)) ⌝ }
 {
     if records::field(bytes, x, records::KIND) == records::FREE {
@@ -143,7 +131,7 @@ fn step_verdict(bytes: &[u8], words: &[u64], x: u16) -> u8
 
 // An unmarked thing that a marked one has a flow to is marked and, for a task, its objects.
 pub fn step(bytes: &mut [u8], words: &[u64], order: Order, x: u16) -> u8
-    requires { ⌜ (length (now bytes) ≡ 1024) × (length (now words) ≡ 768) × (orderPasses order ≡ true) × (sound order (now bytes) ≡ true) ⌝ }
+    requires { ⌜ Ready order (now bytes) (now words) ⌝ }
     ensures { λ r. ⌜ left r 0 (now (bytes .exit)) (now (words .entry)) ≡ outcome (memory (now (bytes .entry)) (now (words .entry))) (model·events.step order (memory (now (bytes .entry)) (now (words .entry))) x) ⌝ }
 {
     let verdict = step_verdict(bytes, words, x);
@@ -155,7 +143,7 @@ pub fn step(bytes: &mut [u8], words: &[u64], order: Order, x: u16) -> u8
 
 // Rounds of marking along the flows until one marks nothing; how many marked something.
 pub fn spread(bytes: &mut [u8], words: &[u64], order: Order) -> u8
-    requires { ⌜ (length (now bytes) ≡ 1024) × (length (now words) ≡ 768) × (orderPasses order ≡ true) × (sound order (now bytes) ≡ true) ⌝ }
+    requires { ⌜ Ready order (now bytes) (now words) ⌝ }
     ensures { λ r. ⌜ left 0 r (now (bytes .exit)) (now (words .entry)) ≡ model·spread.spread (memory (now (bytes .entry)) (now (words .entry))) ⌝ }
 {
     let sources = sets::with_field(bytes, MARKS);

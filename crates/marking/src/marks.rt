@@ -1,17 +1,14 @@
 // The marks of records.
 use crate::DRIVER;
 use crate::MARKS;
-use crate::NUMBERS;
-use crate::RECORD_SIZE;
-use crate::RECORDS;
 use crate::sets::Set;
 ghost use mathlib.Core.Path.{_≡_};
 ghost use mathlib.Core.Bool.{_&&_};
 ghost use mathlib.Core.List.{List, []};
-ghost use Prim.Native.Nat.{ℕ, _≤_, _<_};
-ghost use lib.ListN.{length};
+ghost use Prim.Native.Nat.{ℕ, _+_, _≤_, _<_};
 ghost use Rattle.bits.specs.All.{anyB};
-ghost use Rattle.records.specs.Records.{field, kind};
+ghost use Rattle.rows.specs.Size.{numbers};
+ghost use Rattle.records.specs.Records.{BytesLent, field, kind};
 ghost use Rattle.model.specs.State.{memory, marked, hasFlow};
 ghost use Rattle.model.specs.Effects.{markWhere, objectOf, effect, mark-outside, mark-thing};
 ghost use Rattle.marking.specs.Sets.{has, inWord};
@@ -19,12 +16,12 @@ ghost use Rattle.marking.specs.Plain.{Plain};
 
 // The numbers of a word are marked. A mark that is there stays as it is.
 fn mark_word(bytes: &mut [u8], word: u64, first: usize)
-    requires { ⌜ (length (now bytes) ≡ 1024) × (first ≤ 64) ⌝ }
+    requires { ⌜ BytesLent (now bytes) × (first + 64 ≤ numbers) ⌝ }
     ensures { λ _. ⌜ ((ws : List ℕ) → memory (now (bytes .exit)) ws ≡ markWhere (inWord word first) (memory (now (bytes .entry)) ws)) ⌝ }
 {
     let mut rest = word;
     while rest != 0 {
-        let at = RECORD_SIZE * (first + (bits::lowest_one(rest) as usize)) + MARKS;
+        let at = records::RECORD_SIZE * (first + (bits::lowest_one(rest) as usize)) + MARKS;
         if bytes[at] == 0 {
             bytes[at] = 1;
         }
@@ -34,7 +31,7 @@ fn mark_word(bytes: &mut [u8], word: u64, first: usize)
 
 // The numbers of a set are marked.
 pub fn mark_set(bytes: &mut [u8], set: Set)
-    requires { ⌜ length (now bytes) ≡ 1024 ⌝ }
+    requires { ⌜ BytesLent (now bytes) ⌝ }
     ensures { λ _. ⌜ ((ws : List ℕ) → memory (now (bytes .exit)) ws ≡ markWhere (has set) (memory (now (bytes .entry)) ws)) ⌝ }
 {
     mark_word(bytes, set.low, 0);
@@ -43,10 +40,10 @@ pub fn mark_set(bytes: &mut [u8], set: Set)
 
 // x is an object of the driver.
 fn is_object_of(bytes: &[u8], driver: u16, x: usize) -> bool
-    requires { ⌜ (length (now bytes) ≡ 1024) × (x < 128) ⌝ }
+    requires { ⌜ BytesLent (now bytes) × (x < numbers) ⌝ }
     ensures { λ r. ⌜ r ≡ objectOf (memory (now (bytes .entry)) []) driver x ⌝ }
 {
-    let at = RECORD_SIZE * x;
+    let at = records::RECORD_SIZE * x;
     if bytes[at] != records::OBJECT {
         return false;
     }
@@ -55,13 +52,13 @@ fn is_object_of(bytes: &[u8], driver: u16, x: usize) -> bool
 
 // The objects of a driver are marked. Their marks are 0 or 1, so each gets a 1.
 pub fn mark_objects(bytes: &mut [u8], driver: u16)
-    requires { ⌜ (length (now bytes) ≡ 1024) × Plain (now bytes) ⌝ }
+    requires { ⌜ BytesLent (now bytes) × Plain (now bytes) ⌝ }
     ensures { λ _. ⌜ ((ws : List ℕ) → memory (now (bytes .exit)) ws ≡ markWhere (objectOf (memory (now (bytes .entry)) ws) driver) (memory (now (bytes .entry)) ws)) ⌝ }
 {
     let mut x = 0;
-    while x < RECORDS {
+    while x < records::RECORDS {
         if is_object_of(bytes, driver, x) {
-            bytes[RECORD_SIZE * x + MARKS] = 1;
+            bytes[records::RECORD_SIZE * x + MARKS] = 1;
         }
         x += 1;
     }
@@ -72,7 +69,7 @@ const OUTSIDE: u8 = 3;
 
 // A task is marked from outside, and its objects are marked.
 pub fn mark_outside(bytes: &mut [u8], task: u16)
-    requires { ⌜ (length (now bytes) ≡ 1024) × (task < 128) × (kind (now bytes) task ≡ 1) × Plain (now bytes) ⌝ }
+    requires { ⌜ BytesLent (now bytes) × (task < numbers) × (kind (now bytes) task ≡ 1) × Plain (now bytes) ⌝ }
     ensures { λ _. ⌜ ((ws : List ℕ) → memory (now (bytes .exit)) ws ≡ effect (mark-outside task) (memory (now (bytes .entry)) ws)) ⌝ }
 {
     records::set_field(bytes, task, records::MARKS, OUTSIDE);
@@ -81,7 +78,7 @@ pub fn mark_outside(bytes: &mut [u8], task: u16)
 
 // An unmarked thing is marked and, for a task, its objects.
 pub fn mark_thing(bytes: &mut [u8], x: u16)
-    requires { ⌜ (length (now bytes) ≡ 1024) × (x < 128) × (field (now bytes) x 5 ≡ 0) × Plain (now bytes) ⌝ }
+    requires { ⌜ BytesLent (now bytes) × (x < numbers) × (field (now bytes) x 5 ≡ 0) × Plain (now bytes) ⌝ }
     ensures { λ _. ⌜ ((ws : List ℕ) → memory (now (bytes .exit)) ws ≡ effect (mark-thing x) (memory (now (bytes .entry)) ws)) ⌝ }
 {
     let drives = records::is_task(bytes, x);
@@ -93,12 +90,12 @@ pub fn mark_thing(bytes: &mut [u8], x: u16)
 
 // A marked thing has a flow to x.
 pub fn is_fed(bytes: &[u8], words: &[u64], x: u16) -> bool
-    requires { ⌜ length (now bytes) ≡ 1024 ⌝ }
-    ensures { λ r. ⌜ r ≡ anyB 128 (λ y. marked (memory (now (bytes .entry)) (now (words .entry))) y && hasFlow (memory (now (bytes .entry)) (now (words .entry))) y x) ⌝ }
+    requires { ⌜ BytesLent (now bytes) ⌝ }
+    ensures { λ r. ⌜ r ≡ anyB numbers (λ y. marked (memory (now (bytes .entry)) (now (words .entry))) y && hasFlow (memory (now (bytes .entry)) (now (words .entry))) y x) ⌝ }
 {
     let mut y: u16 = 0;
-    while y < NUMBERS {
-        if (bytes[RECORD_SIZE * (y as usize) + MARKS] != 0) & rows::has(words, y, x) {
+    while y < rows::NUMBERS {
+        if (bytes[records::RECORD_SIZE * (y as usize) + MARKS] != 0) & rows::has(words, y, x) {
             return true;
         }
         y += 1;

@@ -1,35 +1,41 @@
 // The rounds of a spread, on sets.
 use crate::DRIVER;
 use crate::KIND;
-use crate::NUMBERS;
-use crate::RECORD_SIZE;
 use crate::sets;
 use crate::sets::Set;
 ghost use mathlib.Core.Path.{_≡_};
-ghost use Prim.Native.Nat.{_≤_, _<_};
-ghost use lib.ListN.{length};
+ghost use Prim.Native.Nat.{_+_, _*_, _≤_, _<_};
+ghost use Rattle.rows.specs.Size.{rowSize, numbers, WordsLent};
+ghost use Rattle.records.specs.Records.{BytesLent};
 ghost use Rattle.model.specs.State as state;
 ghost use Rattle.model.specs.State.{memory};
-ghost use Rattle.marking.specs.Sets.{has, setOf, inWord};
-ghost use Rattle.marking.specs.Rounds.{Driven, Put, ownRow, roundSet, spreadSets};
+ghost use Rattle.marking.specs.Sets.{has, setOf, inWord, TableLent};
+ghost use Rattle.marking.specs.Rounds.{OwnedRows, Driven, Put, ownRow, roundSet, spreadSets};
+
+// The rows of the drivers' objects: one for each number, and a last one for the drivers themselves.
+const OWNED: usize = rows::ROW_WORDS * (records::RECORDS + 1);
+
+const DRIVERS_LOW: usize = rows::ROW_WORDS * records::RECORDS;
+
+const DRIVERS_HIGH: usize = DRIVERS_LOW + 1;
 
 // An object is put into the row of its driver, and its driver into the last row.
 fn own_row(bytes: &[u8], owned: &mut [u64], x: u16)
-    requires { ⌜ (length (now bytes) ≡ 1024) × (x < 128) ⌝ }
-    ensures { λ _. ⌜ now (owned .exit) ≡ ownRow (now (bytes .entry)) x (now (owned .entry)) ⌝ }
+    requires { ⌜ BytesLent (now bytes) × (x < numbers) ⌝ }
+    ensures { λ _. ⌜ now (owned .exit) ≡ ownRow rowSize (now (bytes .entry)) x (now (owned .entry)) ⌝ }
 {
-    let at = RECORD_SIZE * (x as usize);
+    let at = records::RECORD_SIZE * (x as usize);
     if bytes[at] == records::OBJECT {
         let driver = bytes[at + DRIVER] as u16;
         rows::add(owned, driver, x);
-        rows::add(owned, NUMBERS, driver);
+        rows::add(owned, rows::NUMBERS, driver);
     }
 }
 
 // The same for the numbers of a word.
 fn own_word(bytes: &[u8], owned: &mut [u64], word: u64, first: u16)
-    requires { ⌜ (length (now bytes) ≡ 1024) × (length (now owned) ≡ 258) × (first ≤ 64) × Driven (now bytes) ⌝ }
-    ensures { λ _. ⌜ Put (now (bytes .entry)) (inWord word first) (now (owned .entry)) (now (owned .exit)) ⌝ }
+    requires { ⌜ BytesLent (now bytes) × OwnedRows (now owned) × (first + 64 ≤ numbers) × Driven (now bytes) ⌝ }
+    ensures { λ _. ⌜ Put rowSize (now (bytes .entry)) (inWord word first) (now (owned .entry)) (now (owned .exit)) ⌝ }
 {
     let mut rest = word;
     while rest != 0 {
@@ -40,8 +46,8 @@ fn own_word(bytes: &[u8], owned: &mut [u64], word: u64, first: u16)
 
 // The same for the numbers of a set.
 fn own_rows(bytes: &[u8], owned: &mut [u64], set: Set)
-    requires { ⌜ (length (now bytes) ≡ 1024) × (length (now owned) ≡ 258) × Driven (now bytes) ⌝ }
-    ensures { λ _. ⌜ Put (now (bytes .entry)) (has set) (now (owned .entry)) (now (owned .exit)) ⌝ }
+    requires { ⌜ BytesLent (now bytes) × OwnedRows (now owned) × Driven (now bytes) ⌝ }
+    ensures { λ _. ⌜ Put rowSize (now (bytes .entry)) (has set) (now (owned .entry)) (now (owned .exit)) ⌝ }
 {
     own_word(bytes, owned, set.low, 0);
     own_word(bytes, owned, set.high, 64);
@@ -49,13 +55,13 @@ fn own_rows(bytes: &[u8], owned: &mut [u64], set: Set)
 
 // What a round marks of the unmarked things in use: those that a source has a flow to, and then the objects of the sources and of these.
 fn round(words: &[u64], owned: &[u64], unmarked: Set, sources: Set) -> Set
-    requires { ⌜ (256 ≤ length (now words)) × (length (now owned) ≡ 258) ⌝ }
+    requires { ⌜ TableLent (now words) × OwnedRows (now owned) ⌝ }
     ensures { λ r. ⌜ r ≡ roundSet (now (words .entry)) (now (owned .entry)) unmarked sources ⌝ }
 {
     let reached = sets::common(sets::rows_of(words, sources), unmarked);
     let drivers = Set {
-        low: owned[256],
-        high: owned[257],
+        low: owned[DRIVERS_LOW],
+        high: owned[DRIVERS_HIGH],
     };
     let driving = sets::common(sets::union(sources, reached), drivers);
     let driven = sets::common(sets::rows_of(owned, driving), unmarked);
@@ -70,7 +76,7 @@ pub struct Spread {
 
 // The rounds go on until one marks nothing. What older sources feed or drive is marked by then, so only the things that the last round marked are sources of the next.
 pub fn spread_sets(bytes: &[u8], words: &[u64], marked: Set) -> Spread
-    requires { ⌜ (length (now bytes) ≡ 1024) × (length (now words) ≡ 768) × Driven (now bytes) × (marked ≡ setOf (state.marked (memory (now bytes) (now words)))) ⌝ }
+    requires { ⌜ BytesLent (now bytes) × WordsLent (now words) × Driven (now bytes) × (marked ≡ setOf (state.marked (memory (now bytes) (now words)))) ⌝ }
     ensures { λ r. ⌜ r ≡ spreadSets (memory (now (bytes .entry)) (now (words .entry))) ⌝ }
 {
     let before = sets::without(sets::with_field(bytes, KIND), marked);
@@ -81,7 +87,7 @@ pub fn spread_sets(bytes: &[u8], words: &[u64], marked: Set) -> Spread
         };
     }
     // A round takes only unmarked objects from the rows, so only these are put there.
-    let mut owned = [0u64; 258];
+    let mut owned = [0u64; OWNED];
     own_rows(bytes, &mut owned, before);
     let mut unmarked = before;
     let mut new = marked;

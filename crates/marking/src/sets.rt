@@ -1,15 +1,14 @@
 // Sets of numbers, a bit for each, in two words.
-use crate::RECORD_SIZE;
 ghost use mathlib.Core.Path.{_≡_};
 ghost use mathlib.Core.Bool.{not, _&&_, _||_};
-ghost use Prim.Native.Nat.{_+_, _≤_, _<_};
+ghost use Prim.Native.Nat.{_+_, _*_, _≤_, _<_};
 ghost use lib.Dec.{eqb};
-ghost use lib.ListN.{length};
 ghost use Rattle.bits.specs.Bit.{wordOf};
 ghost use Rattle.bits.specs.BitLaws.{lowWord};
 ghost use Rattle.bits.specs.All.{anyB};
-ghost use Rattle.records.specs.Records.{field};
-ghost use Rattle.marking.specs.Sets.{has, setOf, inWord, joined};
+ghost use Rattle.rows.specs.Size.{rowSize, numbers};
+ghost use Rattle.records.specs.Records.{recordSize, BytesLent, field};
+ghost use Rattle.marking.specs.Sets.{has, setOf, inWord, joined, TableLent};
 
 // Number x is bit x of the low word, or bit x - 64 of the high one.
 pub struct Set {
@@ -19,21 +18,21 @@ pub struct Set {
 
 // Of eight numbers, from the first on: a bit for each whose byte f is not zero. The last is taken first, so that a turn doubles what is there and needs no place.
 fn eight_with(bytes: &[u8], first: usize, f: usize) -> u64
-    requires { ⌜ (length (now bytes) ≡ 1024) × (first ≤ 120) × (f < 8) ⌝ }
+    requires { ⌜ BytesLent (now bytes) × (first + 8 ≤ numbers) × (f < recordSize) ⌝ }
     ensures { λ r. ⌜ r ≡ lowWord (λ i. not (eqb (field (now (bytes .entry)) (first + i) f) 0)) 8 ⌝ }
 {
     let mut w: u64 = 0;
     let mut i: usize = 8;
     while i > 0 {
         i -= 1;
-        w = 2 * w + ((bytes[RECORD_SIZE * (first + i) + f] != 0) as u64);
+        w = 2 * w + ((bytes[records::RECORD_SIZE * (first + i) + f] != 0) as u64);
     }
     w
 }
 
 // The word of 64 numbers, from the first on: whose byte f is not zero.
 fn word_with(bytes: &[u8], first: usize, f: usize) -> u64
-    requires { ⌜ (length (now bytes) ≡ 1024) × (first ≤ 64) × (f < 8) ⌝ }
+    requires { ⌜ BytesLent (now bytes) × (first + 64 ≤ numbers) × (f < recordSize) ⌝ }
     ensures { λ r. ⌜ r ≡ wordOf (λ i. not (eqb (field (now (bytes .entry)) (first + i) f) 0)) ⌝ }
 {
     let mut w: u64 = 0;
@@ -47,7 +46,7 @@ fn word_with(bytes: &[u8], first: usize, f: usize) -> u64
 
 // The numbers whose byte f is not zero.
 pub fn with_field(bytes: &[u8], f: usize) -> Set
-    requires { ⌜ (length (now bytes) ≡ 1024) × (f < 8) ⌝ }
+    requires { ⌜ BytesLent (now bytes) × (f < recordSize) ⌝ }
     ensures { λ r. ⌜ r ≡ setOf (λ x. not (eqb (field (now (bytes .entry)) x f) 0)) ⌝ }
 {
     Set {
@@ -84,22 +83,22 @@ pub fn without(a: Set, b: Set) -> Set
 }
 
 pub fn is_empty(a: Set) -> bool
-    ensures { λ r. ⌜ r ≡ not (anyB 128 (λ x. has a x)) ⌝ }
+    ensures { λ r. ⌜ r ≡ not (anyB numbers (has a)) ⌝ }
 {
     (a.low == 0) & (a.high == 0)
 }
 
 // Onto a set, the rows of the numbers of a word.
 fn join_word(words: &[u64], word: u64, first: usize, onto: Set) -> Set
-    requires { ⌜ (256 ≤ length (now words)) × (first ≤ 64) ⌝ }
-    ensures { λ r. ⌜ r ≡ setOf (λ x. has onto x || joined (now (words .entry)) (inWord word first) x) ⌝ }
+    requires { ⌜ TableLent (now words) × (first + 64 ≤ numbers) ⌝ }
+    ensures { λ r. ⌜ r ≡ setOf (λ x. has onto x || joined rowSize (now (words .entry)) (inWord word first) x) ⌝ }
 {
     let mut low = onto.low;
     // The high word is kept as its complement: a compiler puts two words joined alike into one vector register, and each round of a long chain waits longer for that.
     let mut missed = !onto.high;
     let mut rest = word;
     while rest != 0 {
-        let row = 2 * (first + (bits::lowest_one(rest) as usize));
+        let row = rows::ROW_WORDS * (first + (bits::lowest_one(rest) as usize));
         low = low | words[row];
         missed = missed & !words[row + 1];
         rest = rest & (rest - 1);
@@ -112,8 +111,8 @@ fn join_word(words: &[u64], word: u64, first: usize, onto: Set) -> Set
 
 // The rows of a set's numbers together.
 pub fn rows_of(words: &[u64], set: Set) -> Set
-    requires { ⌜ 256 ≤ length (now words) ⌝ }
-    ensures { λ r. ⌜ r ≡ setOf (λ x. joined (now (words .entry)) (has set) x) ⌝ }
+    requires { ⌜ TableLent (now words) ⌝ }
+    ensures { λ r. ⌜ r ≡ setOf (λ x. joined rowSize (now (words .entry)) (has set) x) ⌝ }
 {
     let low = join_word(words, set.low, 0, Set { low: 0, high: 0 });
     join_word(words, set.high, 64, low)

@@ -14,12 +14,12 @@ add-result : tie.Need-add-result
 add-result c = let a = c .before .before .args in omega (arith, c .lowest-one .ensures, trailing-le 64 (a .w / 2 ^ (a .i)))
 
 returns : tie.Need-returns
-returns c = first-is (first-none (c .before .args .w) (c .before .args .i) (search needs) (c .if1 .taken))
+returns c = first-is _ (omega arith) (first-none (c .before .args .w) (c .before .args .i) (search needs) (c .if1 .taken))
 
 returns-2 : tie.Need-returns-2
 returns-2 c =
     let a = c .before .before .args in
-    ap (λ (t : ℕ). a .i + t) (c .lowest-one .ensures) ∙ first-is (first-some (a .w) (a .i) (search needs) (search needs) (c .before .if1 .left))
+    ap (λ (t : ℕ). a .i + t) (c .lowest-one .ensures) ∙ first-is _ (omega arith) (first-some (a .w) (a .i) (search needs) (search needs) (c .before .if1 .left))
 
 pub lowest-from-spec : {M : Type 1} → statement M
 lowest-from-spec = tie.close (tie.spec (λ c. search needs) (λ c κs. search needs) cast-result add-result returns returns-2)

@@ -1,32 +1,33 @@
-use mathlib.Core.Path.{_∙_}
 use native.Mathlib.Omega.{arith}
 use borrow.Author.Needs.{needs}
-use Rattle.marking.specs.FirstLaws.{first-of, in-low, first-low, first-high, next-is, next-none}
+use Rattle.marking.specs.FirstLaws.{first-of, first-word, first-stop, first-then, next-is, next-none}
 use Rattle.marking.proofs.next_marked.Statement.{statement}
 use Rattle.marking.proofs.next_marked.Tie as tie
 
 add-result : tie.Need-add-result
-add-result c = omega (arith, first-of (c .lowest-from2 .ensures) .within)
+add-result c = omega (arith, first-of _ {e = 64} (omega arith) (c .lowest-from2 .ensures) .within)
 
 add-result-2 : tie.Need-add-result-2
-add-result-2 c = omega (arith, first-of (c .lowest-from3 .ensures) .within)
+add-result-2 c = omega (arith, first-of _ {e = 64} (omega arith) (c .lowest-from3 .ensures) .within)
 
 returns : tie.Need-returns
 returns c =
     let t = c .before .before .before .before .args .report in
-    next-is t (omega arith) (first-low (t .words) (c .if2 .taken) (first-of (c .before .lowest-from .ensures)))
+    next-is t (omega arith) (first-stop (first-word (t .words) 0 (omega arith) (omega arith) (first-of _ (omega arith) (c .before .lowest-from .ensures))) (c .if2 .taken) (omega arith))
 
 returns-2 : tie.Need-returns-2
 returns-2 c =
     let t = c .before .before .before .before .before .args .report in
-    let low = first-of (c .before .before .lowest-from .ensures) in
     next-is t (omega arith)
-    (first-high (t .words) (omega arith) (omega arith) (λ j a b. in-low (t .words) j (omega arith) ∙ low .none j a (omega arith)) (first-of (c .lowest-from2 .ensures)))
+    (first-then
+    (first-word (t .words) 0 (omega arith) (omega arith) (first-of _ (omega arith) (c .before .before .lowest-from .ensures)))
+    (c .before .if2 .left)
+    (first-word (t .words) 1 (omega arith) (omega arith) (first-of _ (omega arith) (c .lowest-from2 .ensures))))
 
 returns-3 : tie.Need-returns-3
 returns-3 c =
     let t = c .before .before .before .before .args .report in
-    next-is t (omega arith) (first-high (t .words) (omega arith) (omega arith) (λ j a b. absurd (omega arith)) (first-of (c .lowest-from3 .ensures)))
+    next-is t (omega arith) (first-word (t .words) 1 (omega arith) (omega arith) (first-of _ (omega arith) (c .lowest-from3 .ensures)))
 
 returns-4 : tie.Need-returns-4
 returns-4 c = next-none (c .before .before .before .args .report) (c .if3 .left)

@@ -1,6 +1,7 @@
 use mathlib.Core.Path.{sym, _∙_}
 use borrow.Author.Needs.{needs}
 use borrow.Author.Tests.{not-true, not-false}
+use Rattle.rows.specs.Size.{present}
 use Rattle.records.specs.RecordLaws.{long}
 use Rattle.model.specs.State.{memory}
 use Rattle.marking.specs.ReportLaws.{report-length, report-unsound, report-order, report-whole}
@@ -29,7 +30,7 @@ marked-report-requires : tie.Need-marked-report-requires
 marked-report-requires c κs =
     let a = c .before .before .before .before .before .before .before .args in
     let d = c .before .before in
-    long (a .order) (a .bytes .now) (sym (d .before .sound .ensures) ∙ not-false _ (d .if2 .left))
+    long present (a .order) (a .bytes .now) (sym (d .before .sound .ensures) ∙ not-false _ (d .if2 .left))
 
 returns-4 : tie.Need-returns-4
 returns-4 c =

@@ -10,6 +10,7 @@ use lib.ListN.{getD}
 use borrow.Author.Needs.{needs}
 use Rattle.bits.specs.All.{anyB}
 use Rattle.bits.specs.AllLaws.{any-none, any-more, any-i}
+use Rattle.rows.specs.Size.{numbers}
 use Rattle.records.specs.Records.{field}
 use Rattle.model.specs.State.{memory, marked, hasFlow}
 use Rattle.marking.proofs.marks.is_fed.Statement.{statement}
@@ -19,10 +20,10 @@ abbrev feeds : List ℕ → List ℕ → ℕ → ℕ → Bool
 feeds bytes words x y = marked (memory bytes words) y && hasFlow (memory bytes words) y x
 
 abbrev Inv-loop : tie.InvT-loop
-Inv-loop bytes words x y₀ y = (y ≤ 128) × (anyB y (feeds bytes words x) ≡ false)
+Inv-loop bytes words x y₀ y = (y ≤ numbers) × (anyB y (feeds bytes words x) ≡ false)
 
 abbrev μ-loop : tie.MeasureT-loop
-μ-loop bytes words x y₀ y = 128 - y
+μ-loop bytes words x y₀ y = numbers - y
 
 loop-holds : tie.Need-loop-holds Inv-loop μ-loop
 loop-holds c = (search needs, any-none _)
@@ -35,7 +36,7 @@ unfolding marked hasFlow field
 tested c = rw (c .has .ensures)
 
 returns : tie.Need-returns Inv-loop μ-loop
-returns c = sym (any-i 128 _ (c .before .before .before .before .loop .y) (omega arith) (tested (c .before) ∙ c .if1 .taken))
+returns c = sym (any-i numbers _ (c .before .before .before .before .loop .y) (omega arith) (tested (c .before) ∙ c .if1 .taken))
 
 loop-again : tie.Need-loop-again Inv-loop μ-loop
 loop-again c =
@@ -44,7 +45,7 @@ loop-again c =
 
 returns-2 : tie.Need-returns-2 Inv-loop μ-loop
 returns-2 c =
-    let e : c .before .loop .y ≡ 128 = omega arith in
+    let e : c .before .loop .y ≡ numbers = omega arith in
     sym (rw e at (c .before .loop .inv .1))
 
 pub is-fed-spec : {M : Type 1} → statement M

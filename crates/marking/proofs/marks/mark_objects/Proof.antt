@@ -7,10 +7,10 @@ use mathlib.Core.List.{List, []}
 use Prim.Native.Nat.{ℕ, _-_, _≤_}
 use native.Mathlib.Omega.{arith}
 use lib.Dec.{leb, eqb}
-use lib.ListN.{length}
 use borrow.Author.Needs.{needs}
 use borrow.Author.Tests.{eqb-true, le-leb, lt-leb}
-use Rattle.records.specs.Records.{kind, isObject}
+use Rattle.rows.specs.Size.{numbers}
+use Rattle.records.specs.Records.{BytesLent, kind, isObject}
 use Rattle.model.specs.State.{Memory, memory, object}
 use Rattle.model.specs.Effects.{objectOf}
 use Rattle.marking.specs.MarksLaws.{Marks, Left, left-all, left-from, left-less, left-none, left-plain, from-here, marks-none, marks-over, kept-objectOf}
@@ -19,11 +19,11 @@ use Rattle.marking.proofs.marks.mark_objects.Tie as tie
 
 abbrev Inv-loop : tie.InvT-loop
 Inv-loop bytes₀ driver x₀ bytes x =
-    (x ≤ 128) × (length bytes ≡ 1024)
+    (x ≤ numbers) × BytesLent bytes
     × ((ws : List ℕ) → Left (memory bytes₀ ws) (memory bytes ws) (objectOf (memory bytes₀ ws) driver) (λ y. leb x y && objectOf (memory bytes₀ ws) driver y))
 
 abbrev μ-loop : tie.MeasureT-loop
-μ-loop bytes₀ driver x₀ bytes x = 128 - x
+μ-loop bytes₀ driver x₀ bytes x = numbers - x
 
 loop-holds : tie.Need-loop-holds Inv-loop μ-loop
 loop-holds c = (search needs, search needs, λ ws. left-from (left-all _ _) (λ y l. rw (le-leb 0 y (omega arith))))

@@ -1,14 +1,14 @@
 -- Before each turn the numbers of the rest of the word are left to be marked.
 -- Assumes nothing.
-use mathlib.Core.Path.{_≡_, _∙_}
+use mathlib.Core.Path.{_∙_}
 use mathlib.Core.Logic.{⊎-elim}
 use mathlib.Core.List.{List, []}
 use Prim.Native.Nat.{ℕ, _+_, _^_, _<_}
 use native.Mathlib.Omega.{arith}
-use lib.ListN.{length}
 use lib.Dec.{eqb}
 use borrow.Author.Needs.{needs}
 use Rattle.bits.specs.BitLaws.{trailing-lt}
+use Rattle.records.specs.Records.{BytesLent}
 use Rattle.model.specs.State.{memory}
 use Rattle.marking.specs.Sets.{inWord}
 use Rattle.marking.specs.MarksLaws.{Marks, Left, left-all, left-less, left-none, marks-store, marks-there}
@@ -18,7 +18,7 @@ use Rattle.marking.proofs.marks.mark_word.Tie as tie
 
 abbrev Inv-loop : tie.InvT-loop
 Inv-loop bytes₀ word first rest₀ bytes rest =
-    (rest < 2 ^ 64) × (length bytes ≡ 1024) × ((ws : List ℕ) → Left (memory bytes₀ ws) (memory bytes ws) (inWord word first) (inWord rest first))
+    (rest < 2 ^ 64) × BytesLent bytes × ((ws : List ℕ) → Left (memory bytes₀ ws) (memory bytes ws) (inWord word first) (inWord rest first))
 
 abbrev μ-loop : tie.MeasureT-loop
 μ-loop bytes₀ word first rest₀ bytes rest = rest

@@ -2,10 +2,11 @@ use mathlib.Core.Path.{ap, _∙_}
 use mathlib.Core.Bool.{Bool, _&&_, _||_}
 use borrow.Author.Needs.{needs}
 use Rattle.bits.specs.All.{anyB}
+use Rattle.rows.specs.Size.{rowSize, numbers}
 use Rattle.rows.specs.Rows.{cell}
 use Rattle.marking.specs.Sets.{inWord}
 use Rattle.marking.specs.Rounds.{puts}
-use Rattle.marking.specs.WalkLaws.{some-words}
+use Rattle.marking.specs.SetLaws.{fits, some-words}
 use Rattle.marking.proofs.rounds.own_rows.Statement.{statement}
 use Rattle.marking.proofs.rounds.own_rows.Tie as tie
 
@@ -13,8 +14,8 @@ returns : tie.Need-returns
 returns c =
     let a = c .before .before .before .before .before .before .before .before .before .before .args in
     λ d y l. c .before .before .own-word2 .ensures d y l
-    ∙ ap (λ (b : Bool). b || anyB 128 (λ i. inWord (a .set .high) 64 i && puts (a .bytes .now) d y i)) (c .before .before .before .before .before .before .own-word .ensures d y l)
-    ∙ some-words (puts (a .bytes .now) d y) (cell 2 (a .owned .now) d y) (a .set) (record { low = search needs; high = search needs })
+    ∙ ap (λ (b : Bool). b || anyB numbers (λ i. inWord (a .set .high) 64 i && puts rowSize (a .bytes .now) d y i)) (c .before .before .before .before .before .before .own-word .ensures d y l)
+    ∙ some-words (puts rowSize (a .bytes .now) d y) (cell rowSize (a .owned .now) d y) (a .set) (fits (search needs) (search needs))
 
 pub own-rows-spec : {M : Type 1} → statement M
 own-rows-spec = tie.close (tie.spec (λ c κs. search needs) (λ c κs. search needs) (λ c. search needs) returns)

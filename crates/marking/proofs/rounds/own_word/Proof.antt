@@ -6,13 +6,13 @@ use mathlib.Core.List.{List}
 use Prim.Native.Nat.{ℕ, _+_, _-_, _^_, _<_}
 use native.Mathlib.Omega.{arith}
 use lib.Bits.{bitAnd}
-use lib.ListN.{length}
 use borrow.Author.Needs.{needs}
 use Rattle.bits.specs.BitLaws.{trailing-lt}
 use Rattle.bits.specs.All.{anyB}
+use Rattle.rows.specs.Size.{rowSize, numbers}
 use Rattle.rows.specs.Rows.{cell}
 use Rattle.marking.specs.Sets.{inWord}
-use Rattle.marking.specs.Rounds.{puts}
+use Rattle.marking.specs.Rounds.{OwnedRows, puts}
 use Rattle.marking.specs.OwnedLaws.{own-cell}
 use Rattle.marking.specs.WalkLaws.{some-next, some-end, rest-less}
 use Rattle.marking.proofs.rounds.own_word.Statement.{statement}
@@ -20,11 +20,11 @@ use Rattle.marking.proofs.rounds.own_word.Tie as tie
 
 -- column y of row d, with a word's numbers put
 abbrev with : List ℕ → List ℕ → ℕ → ℕ → ℕ → ℕ → Bool
-with bytes owned word first d y = cell 2 owned d y || anyB 128 (λ i. inWord word first i && puts bytes d y i)
+with bytes owned word first d y = cell rowSize owned d y || anyB numbers (λ i. inWord word first i && puts rowSize bytes d y i)
 
 abbrev Inv-loop : tie.InvT-loop
 Inv-loop bytes owned₀ word first rest₀ owned rest =
-    (rest < 2 ^ 64) × (length owned ≡ 258) × ((d y : ℕ) → y < 128 → with bytes owned rest first d y ≡ with bytes owned₀ word first d y)
+    (rest < 2 ^ 64) × OwnedRows owned × ((d y : ℕ) → y < numbers → with bytes owned rest first d y ≡ with bytes owned₀ word first d y)
 
 abbrev μ-loop : tie.MeasureT-loop
 μ-loop bytes owned₀ word first rest₀ owned rest = rest
@@ -48,9 +48,9 @@ loop-again c =
     let p : 0 < l .rest = omega arith in (
       omega (arith, rest-less (l .rest) p),
       k .kept .1 .0 ∙ l .inv .1,
-      λ d y b. ap (λ (q : Bool). q || anyB 128 (λ i. inWord (bitAnd (l .rest) (l .rest - 1)) (z .args .first) i && puts (z .args .bytes .now) d y i))
-          (ap (λ (v : List ℕ). cell 2 v d y) (k .ensures) ∙ own-cell (z .args .bytes .now) (z .pre .3) (l .owned) x d y (l .inv .1) (omega (arith, place f)) b)
-          ∙ some-next (puts (z .args .bytes .now) d y) (cell 2 (l .owned) d y) (l .rest) (z .args .first) _ (l .inv .0) p (omega arith) (f .lowest-one .ensures) ∙ l .inv .2 d y b,
+      λ d y b. ap (λ (q : Bool). q || anyB numbers (λ i. inWord (bitAnd (l .rest) (l .rest - 1)) (z .args .first) i && puts rowSize (z .args .bytes .now) d y i))
+          (ap (λ (v : List ℕ). cell rowSize v d y) (k .ensures) ∙ own-cell rowSize (z .args .bytes .now) (l .owned) x d y (z .pre .3 x) (l .inv .1) (omega (arith, place f)) b)
+          ∙ some-next numbers (puts rowSize (z .args .bytes .now) d y) (cell rowSize (l .owned) d y) (l .rest) (z .args .first) _ (l .inv .0) p (omega arith) (f .lowest-one .ensures) ∙ l .inv .2 d y b,
     )
 
 same-length : tie.Need-same-length Inv-loop μ-loop
@@ -60,7 +60,7 @@ returns : tie.Need-returns Inv-loop μ-loop
 returns c =
     let l = c .before .loop in
     let a = c .before .before .before .before .args in
-    λ d y b. sym (some-end (puts (a .bytes .now) d y) (cell 2 (l .owned) d y) (l .rest) (a .first) (c .loop-test .left)) ∙ l .inv .2 d y b
+    λ d y b. sym (some-end numbers (puts rowSize (a .bytes .now) d y) (cell rowSize (l .owned) d y) (l .rest) (a .first) (c .loop-test .left)) ∙ l .inv .2 d y b
 
 pub own-word-spec : {M : Type 1} → statement M
 own-word-spec =

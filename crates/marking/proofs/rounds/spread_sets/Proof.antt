@@ -2,12 +2,13 @@
 -- Assumes nothing.
 use mathlib.Core.Path.{_≡_, sym, _∙_}
 use mathlib.Core.Bool.{true}
-use Prim.Native.Nat.{_-_, _<_}
+use Prim.Native.Nat.{_+_, _-_, _*_, _<_}
 use native.Mathlib.Omega.{arith}
 use lib.ListN.{replicate}
 use borrow.Author.Needs.{needs}
 use borrow.Author.Tests.{not-true, not-false}
 use Rattle.bits.specs.All.{anyB}
+use Rattle.rows.specs.Size.{rowSize, numbers}
 use Rattle.rows.specs.RowLaws.{cell-zeros}
 use Rattle.model.specs.State.{memory, inUse, marked}
 use Rattle.model.specs.SpreadLaws.{unmarked}
@@ -22,7 +23,7 @@ abbrev Inv-loop : tie.InvT-loop
 Inv-loop bytes words before owned unmarked₀ new₀ count₀ unmarked new count = Spreading (memory bytes words) count unmarked new
 
 abbrev μ-loop : tie.MeasureT-loop
-μ-loop bytes words before owned unmarked₀ new₀ count₀ unmarked new count = 128 - count
+μ-loop bytes words before owned unmarked₀ new₀ count₀ unmarked new count = numbers - count
 
 -- the unmarked things in use at entry
 first : (c : tie.After-without Inv-loop μ-loop)
@@ -39,15 +40,15 @@ abbrev start : tie.After-owned2 Inv-loop μ-loop → tie.Start Inv-loop μ-loop
 start c = c .before .before .before .before .before .before .before .before .before
 
 table : (c : tie.After-owned2 Inv-loop μ-loop) → Table (memory (start c .args .bytes .now) (start c .args .words .now)) (c .before .own-rows .last .1 .0)
-table c = owned-table _ (first (c .before .before .before .before .before)) (replicate 258 0) _ (cell-zeros 2 258) (c .before .own-rows .ensures)
+table c = owned-table _ (first (c .before .before .before .before .before)) (replicate (rowSize * (numbers + 1)) 0) _ (cell-zeros rowSize (rowSize * (numbers + 1))) (c .before .own-rows .ensures)
 
 loop-holds : tie.Need-loop-holds Inv-loop μ-loop
 loop-holds c = let a = start c .args in spreading-first (memory (a .bytes .now) (a .words .now)) (start c .pre .3) (first (c .before .before .before .before .before))
 
-some : (c : tie.Else2 Inv-loop μ-loop) → anyB 128 (λ x. has (c .before .before .round .result) x) ≡ true
+some : (c : tie.Else2 Inv-loop μ-loop) → anyB numbers (has (c .before .before .round .result)) ≡ true
 some c = not-false _ (sym (c .before .is-empty2 .ensures) ∙ c .if2 .left)
 
-below : (c : tie.Else2 Inv-loop μ-loop) → c .before .before .before .before .loop .count < 128
+below : (c : tie.Else2 Inv-loop μ-loop) → c .before .before .before .before .loop .count < numbers
 below c =
     let d = c .before .before .before .before in
     spreading-below _ (start (d .before) .pre .0) _ (table (d .before)) (d .loop .inv) (c .before .before .round .ensures) (some c)

@@ -41,7 +41,7 @@ next c =
     let k : 8 - (l .i - 1) ≡ suc (8 - l .i) = omega arith in
     rw (l .inv .1 ∙ ap (λ (n : ℕ). lowWord (λ j. tests c (n + j)) (8 - l .i)) i, k) (low-first (tests c) (l .i - 1) (8 - l .i))
 
-small : (c : tie.In-loop Inv-loop μ-loop) → 2 * c .before .loop .w + boolByte (tests c (c .before .loop .i - 1)) < 256
+small : (c : tie.In-loop Inv-loop μ-loop) → 2 * c .before .loop .w + boolByte (tests c (c .before .loop .i - 1)) < 2 ^ 8
 small c =
     let k = 8 - (c .before .loop .i - 1) in
     let m : 2 ^ k ≤ 2 ^ 8 = pow-mono {j = 8} (omega arith) in
