@@ -6,12 +6,12 @@ use mathlib.Core.List.{[], _∷_}
 use Prim.Native.Nat.{ℕ, _≤_, _<_}
 use native.Mathlib.Omega.{arith}
 use lib.Dec.{ltb}
-use lib.ListN.{length}
 use borrow.Author.Tests.{lt-ltb, ltb-true}
+use Rattle.rows.specs.Size.{present, numbers}
 use Rattle.levels.specs.declared.Order.{Order}
 use Rattle.levels.specs.Order.{mostLevels, inOrder, atOrBelow, orderPasses}
 use Rattle.levels.specs.OrderLaws.{is-order}
-use Rattle.records.specs.Records.{numbers, rootSign, isObject}
+use Rattle.records.specs.Records.{BytesLent, rootSign, Place, root, within, spareByte, isObject}
 use Rattle.model.specs.Verdicts.{granted, slipped, row-scale, row-rule}
 use Rattle.model.specs.State.{Memory, inUse, task, object, levelOf, marked, hasWrite}
 use Rattle.model.specs.Effects.{flow-if, make-task, make-object, effect, effects}
@@ -20,6 +20,11 @@ use Rattle.decisions.specs.declared.Decision.{Decision}
 use Rattle.decisions.specs.Facts.{writes, bothWrite}
 use Rattle.decisions.specs.DecisionLaws.{Told, told-tests, under, task-small, object-small}
 use Rattle.creation.specs.Judged.{areNew, given, scaled, createRows, executeJudged, createJudged, rootJudged}
+
+-- at the size in use the first spare byte is zero in every place
+pub spare-zero : (p : Place) → spareByte p present ≡ 0
+spare-zero root = refl
+spare-zero (within k) = refl
 
 level-small : (o : Order) → orderPasses o ≡ true → (a : ℕ) → inOrder o a ≡ true → a < mostLevels
 level-small o passes a h = omega (arith, ltb-true a (o .count) h, is-order o passes .few)
@@ -50,16 +55,16 @@ module _ (o : Order) (m : Memory) where
   root-verdict c d n l = refl
 
   pub root-told : (c d n l : ℕ) → Told m (createRoot o m c d n l) (rootJudged o m c d n l)
-      (λ j. make-object n l d rootSign (j .first) ∷ flow-if (j .first) c n ∷ flow-if (j .second) c d ∷ [])
+      (λ j. make-object n l d root (j .first) ∷ flow-if (j .first) c n ∷ flow-if (j .second) c d ∷ [])
   unfolding createRoot effects effect
   root-told c d n l = record { verdict = refl; leaves = refl }
 
   pub create-told : (c d n k l : ℕ) → Told m (create o m c d n k l) (createJudged o m c d n k l)
-      (λ j. make-object n l d k (j .first) ∷ flow-if (j .first) c n ∷ flow-if (j .second) c d ∷ [])
+      (λ j. make-object n l d (within k) (j .first) ∷ flow-if (j .first) c n ∷ flow-if (j .second) c d ∷ [])
   unfolding create effects effect
   create-told c d n k l = record { verdict = refl; leaves = refl }
 
-  module _ (long : length (m .bytes) ≡ 1024) where
+  module _ (long : BytesLent (m .bytes)) where
     -- an access is looked for in its table, past which there is none
     create-verdict : (c d n k l : ℕ) → verdictOf (create o m c d n k l)
         ≡ createRows (m .bytes) (m .words) c d n k (scaled o l (l ⊑ L c && l ⊑ L k && l ⊑ L d))
@@ -82,14 +87,14 @@ module _ (o : Order) (m : Memory) where
           let p = simp and-eq-true-iff at (told-tests (execute-told c i n l r) is h refl .1 .1 .0) in
           (level-small o passes l (p .0), level-small o passes r (p .1))
 
-      pub create-fits : (c d n k l : ℕ) → j ≡ createJudged o m c d n k l → j .verdict ≤ slipped → (d < numbers) × (k < 256) × (l < mostLevels)
+      pub create-fits : (c d n k l : ℕ) → j ≡ createJudged o m c d n k l → j .verdict ≤ slipped → (d < numbers) × (k < 0x100) × (l < mostLevels)
       unfolding create
       create-fits c d n k l is h =
           let t = told-tests (create-told c d n k l) is h refl in
           let p = simp and-eq-true-iff at (t .0) in
           (task-small m d long (p .0 .0 .1), omega (arith, object-small m k long (p .1)), level-small o passes l (t .1 .1 .1 .0))
 
-      pub root-fits : (c d n l : ℕ) → j ≡ rootJudged o m c d n l → j .verdict ≤ slipped → (d < numbers) × (rootSign < 256) × (l < mostLevels)
+      pub root-fits : (c d n l : ℕ) → j ≡ rootJudged o m c d n l → j .verdict ≤ slipped → (d < numbers) × (rootSign < 0x100) × (l < mostLevels)
       unfolding createRoot
       root-fits c d n l is h =
           let t = told-tests (root-told c d n l) is h refl in

@@ -4,7 +4,8 @@ use mathlib.Core.Bool.{Bool, false, not, _&&_}
 use mathlib.Core.List.{List}
 use Prim.Native.Nat.{ℕ}
 use lib.Dec.{ltb, eqb}
-use Rattle.records.specs.Records.{numbers, kind, isTask, isObject}
+use Rattle.rows.specs.Size.{numbers}
+use Rattle.records.specs.Records.{kind, isTask, isObject}
 use Rattle.levels.specs.declared.Order.{Order}
 use Rattle.levels.specs.Order.{inOrder}
 use Rattle.model.specs.Verdicts.{granted, row-number, row-taken, row-held, row-scale, row-rule}

@@ -2,6 +2,8 @@
 ghost use mathlib.Core.Path.{_≡_};
 ghost use mathlib.Core.List.{[], _∷_};
 ghost use Prim.Native.Nat.{_<_};
+ghost use Rattle.rows.specs.Size.{present, numbers};
+ghost use Rattle.records.specs.Records.{Place, containerByte};
 ghost use Rattle.model.specs.State.{memory};
 ghost use Rattle.model.specs.Effects.{flow-if, make-task, make-object, effects};
 use decisions::Decision;
@@ -27,7 +29,7 @@ pub fn execute(
     record_first(words, judged, i, n);
 }
 
-// In the container k, which is the root sign for a root.
+// In the place whose container byte is k.
 pub fn create(
     bytes: &mut [u8],
     words: &mut [u64],
@@ -38,8 +40,8 @@ pub fn create(
     k: u16,
     l: u16,
 )
-    requires { ⌜ (d < 128) × (k < 256) × (l < 16) ⌝ }
-    ensures { λ _. ⌜ memory (now (bytes .exit)) (now (words .exit)) ≡ effects (make-object n l d k (judged .first) ∷ flow-if (judged .first) c n ∷ flow-if (judged .second) c d ∷ []) (memory (now (bytes .entry)) (now (words .entry))) ⌝ }
+    requires { ⌜ (d < numbers) × (k < 0x100) × (l < 16) ⌝ }
+    ensures { λ _. ⌜ ((p : Place) → k ≡ containerByte p present → memory (now (bytes .exit)) (now (words .exit)) ≡ effects (make-object n l d p (judged .first) ∷ flow-if (judged .first) c n ∷ flow-if (judged .second) c d ∷ []) (memory (now (bytes .entry)) (now (words .entry)))) ⌝ }
 {
     set_record(
         bytes,

@@ -2,11 +2,10 @@
 ghost use mathlib.Core.Path.{_≡_};
 ghost use mathlib.Core.List.{List};
 ghost use Prim.Native.Nat.{ℕ};
-ghost use lib.ListN.{length};
+ghost use Rattle.records.specs.Records.{BytesLent};
 ghost use Rattle.model.specs.State.{memory};
 ghost use Rattle.creation.specs.Judged.{areNew, given, scaled, createRows, executeJudged, createJudged, rootJudged};
 use decisions::Decision;
-use decisions::facts::NUMBERS;
 use decisions::facts::both_write;
 use decisions::facts::in_use;
 use decisions::facts::level_below;
@@ -21,6 +20,7 @@ use model::SCALE;
 use model::TAKEN;
 use records::is_object;
 use records::is_task;
+use rows::NUMBERS;
 
 // The rows of the numbers and of a new number.
 fn given(bytes: &[u8], named: bool, n: u16, rest: u8) -> u8
@@ -88,7 +88,7 @@ pub fn create(
     k: u16,
     l: u16,
 ) -> Decision
-    requires { ⌜ length (now bytes) ≡ 1024 ⌝ }
+    requires { ⌜ BytesLent (now bytes) ⌝ }
     ensures { λ r. ⌜ r ≡ createJudged order (memory (now (bytes .entry)) (now (words .entry))) c d n k l ⌝ }
 {
     let rule = level_below(bytes, order, l, c)

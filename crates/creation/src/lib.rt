@@ -1,9 +1,7 @@
 // The events that make things: execute, create and create a root, each equal to its table in the model.
 ghost use mathlib.Core.Path.{_≡_};
-ghost use mathlib.Core.Bool.{true};
-ghost use lib.ListN.{length};
-ghost use Rattle.levels.specs.Order.{orderPasses};
 ghost use Rattle.model.specs.State.{memory};
+ghost use Rattle.model.specs.Ready.{Ready};
 ghost use Rattle.model.specs.Events as model;
 ghost use Rattle.model.specs.Events.{left, outcome};
 
@@ -24,7 +22,7 @@ pub fn execute(
     level: u16,
     read_level: u16,
 ) -> u8
-    requires { ⌜ (length (now bytes) ≡ 1024) × (length (now words) ≡ 768) × (orderPasses order ≡ true) ⌝ }
+    requires { ⌜ Ready order (now bytes) (now words) ⌝ }
     ensures { λ r. ⌜ left r 0 (now (bytes .exit)) (now (words .exit)) ≡ outcome (memory (now (bytes .entry)) (now (words .entry))) (model.execute order (memory (now (bytes .entry)) (now (words .entry))) creator image new level «read_level») ⌝ }
 {
     let judged = judge::execute(bytes, order, creator, image, new, level, read_level);
@@ -44,7 +42,7 @@ pub fn create(
     container: u16,
     level: u16,
 ) -> u8
-    requires { ⌜ (length (now bytes) ≡ 1024) × (length (now words) ≡ 768) × (orderPasses order ≡ true) ⌝ }
+    requires { ⌜ Ready order (now bytes) (now words) ⌝ }
     ensures { λ r. ⌜ left r 0 (now (bytes .exit)) (now (words .exit)) ≡ outcome (memory (now (bytes .entry)) (now (words .entry))) (model.create order (memory (now (bytes .entry)) (now (words .entry))) creator driver new container level) ⌝ }
 {
     let judged = judge::create(bytes, words, order, creator, driver, new, container, level);
@@ -63,7 +61,7 @@ pub fn create_root(
     new: u16,
     level: u16,
 ) -> u8
-    requires { ⌜ (length (now bytes) ≡ 1024) × (length (now words) ≡ 768) × (orderPasses order ≡ true) ⌝ }
+    requires { ⌜ Ready order (now bytes) (now words) ⌝ }
     ensures { λ r. ⌜ left r 0 (now (bytes .exit)) (now (words .exit)) ≡ outcome (memory (now (bytes .entry)) (now (words .entry))) (model.createRoot order (memory (now (bytes .entry)) (now (words .entry))) creator driver new level) ⌝ }
 {
     let judged = judge::create_root(bytes, order, creator, driver, new, level);

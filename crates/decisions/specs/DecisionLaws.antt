@@ -1,17 +1,15 @@
 -- From a decision to the verdict and the outcome of its event's table.
 -- Assumes nothing.
 use mathlib.Core.Path.{_≡_, refl, sym, ap, ap₂, _∙_}
-use mathlib.Core.Bool.{Bool, true, false, _&&_, true≢false}
+use mathlib.Core.Bool.{Bool, true, false, _&&_}
 use mathlib.Core.List.{List, _∷_}
-use Prim.Native.Nat.{ℕ, suc, _≤_, _<_}
-use native.Mathlib.Nat.{lt-of-not-le}
-use native.Mathlib.Omega.{arith}
-use lib.Dec.{eqb, eqb·zero-suc}
-use lib.ListN.{length, List·getD-eq-default}
+use Prim.Native.Nat.{ℕ, _≤_, _<_}
 use borrow.Author.Tests.{le-leb, lt-leb}
-use Rattle.records.specs.Records.{numbers, field, kind, isTask, isObject}
+use Rattle.rows.specs.Size.{numbers}
+use Rattle.records.specs.Records.{BytesLent}
 use Rattle.model.specs.Verdicts.{granted, slipped, row-path, row-rule, isDone}
 use Rattle.model.specs.State.{Memory, memory, task, object}
+use Rattle.model.specs.StateLaws.{task-used, object-used, used-below}
 use Rattle.model.specs.Effects.{Effect, effect, effects}
 use Rattle.model.specs.Events.{Event, left, unless, verdictOf, outcome}
 use Rattle.model.specs.TableLaws.{refusals, Holds, done-tests}
@@ -25,19 +23,12 @@ judged-is e is h = let p = h (ap (λ (d : Decision). d .verdict) is) in λ i. re
 
 -- ---- what is not free is one of the numbers
 
-kind-small : (bs : List ℕ) (x k : ℕ) → length bs ≡ 1024 → eqb (kind bs x) (suc k) ≡ true → x < numbers
-unfolding field
-kind-small bs x k l e =
-    lt-of-not-le (λ (h : numbers ≤ x). true≢false (sym e ∙ ap (λ (v : ℕ). eqb v (suc k)) (List·getD-eq-default bs 0 (omega arith)) ∙ eqb·zero-suc k))
-
-module _ (m : Memory) (x : ℕ) (l : length (m .bytes) ≡ 1024) where
+module _ (m : Memory) (x : ℕ) (l : BytesLent (m .bytes)) where
   pub task-small : task m x ≡ true → x < numbers
-  unfolding task isTask
-  task-small = kind-small (m .bytes) x 0 l
+  task-small t = used-below m x l (task-used m x t)
 
   pub object-small : object m x ≡ true → x < numbers
-  unfolding object isObject
-  object-small = kind-small (m .bytes) x 1 l
+  object-small t = used-below m x l (object-used m x t)
 
 -- below a row of the table its need holds
 pub under : (ok : Bool) (n : ℕ) (v w : ℕ) → (ok ≡ true → v ≡ w) → unless ok n v ≡ unless ok n w

@@ -1,8 +1,9 @@
 // What the events record in the words.
 ghost use mathlib.Core.Path.{_≡_};
 ghost use mathlib.Core.List.{List, [], _∷_};
-ghost use Prim.Native.Nat.{ℕ, _+_, _≤_, _<_};
+ghost use Prim.Native.Nat.{ℕ, _+_, _*_, _≤_, _<_};
 ghost use Rattle.rows.specs.Rows.{addCell};
+ghost use Rattle.rows.specs.Size.{rowSize, numbers};
 ghost use Rattle.model.specs.State.{memory};
 ghost use Rattle.model.specs.Effects.{flow-if, effects};
 use crate::Decision;
@@ -24,8 +25,8 @@ pub fn record_both(words: &mut [u64], judged: Decision, a: u16, b: u16, c: u16, 
 
 // An access of the task e to the object x in the table that begins at a row.
 pub fn add_access(words: &mut [u64], table: u16, e: u16, x: u16)
-    requires { ⌜ (table ≤ 256) × (e < 128) ⌝ }
-    ensures { λ _. ⌜ now (words .exit) ≡ addCell 2 (now (words .entry)) (table + e) x ⌝ }
+    requires { ⌜ (table ≤ 2 * numbers) × (e < numbers) ⌝ }
+    ensures { λ _. ⌜ now (words .exit) ≡ addCell rowSize (now (words .entry)) (table + e) x ⌝ }
 {
     rows::add(words, table + e, x);
 }

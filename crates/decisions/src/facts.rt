@@ -1,9 +1,10 @@
 // What the events ask of the bytes and the words.
 ghost use mathlib.Core.Path.{_≡_};
 ghost use mathlib.Core.Bool.{not, _&&_};
-ghost use Prim.Native.Nat.{_+_, _≤_};
+ghost use Prim.Native.Nat.{_+_, _*_, _≤_};
 ghost use lib.Dec.{ltb, eqb};
 ghost use Rattle.rows.specs.Rows.{cell};
+ghost use Rattle.rows.specs.Size.{rowSize, numbers};
 ghost use Rattle.levels.specs.Order.{atOrBelow};
 ghost use Rattle.records.specs.Records.{field, isTask, isObject};
 ghost use Rattle.decisions.specs.Facts.{writes, bothWrite};
@@ -12,14 +13,8 @@ use records::FREE;
 use records::KIND;
 use records::LEVEL;
 use records::MARKS;
-
-// The rows at which the tables of accesses begin; the flows begin at 0.
-pub const READS: u16 = 128;
-
-pub const WRITES: u16 = 256;
-
-// How many numbers there are, and rows in a table.
-pub const NUMBERS: u16 = 128;
+use rows::NUMBERS;
+use rows::WRITES;
 
 // The level l is at or below the level of y.
 pub fn level_below(bytes: &[u8], order: Order, l: u16, y: u16) -> bool
@@ -71,8 +66,8 @@ pub fn are_named(bytes: &[u8], e: u16, d: u16, x: u16) -> bool
 
 // An access of the task e to the object x in a table; a number past the table has none.
 pub fn has_access(words: &[u64], table: u16, e: u16, x: u16) -> bool
-    requires { ⌜ table ≤ 256 ⌝ }
-    ensures { λ r. ⌜ r ≡ (ltb e 128 && cell 2 (now (words .entry)) (table + e) x) ⌝ }
+    requires { ⌜ table ≤ 2 * numbers ⌝ }
+    ensures { λ r. ⌜ r ≡ (ltb e numbers && cell rowSize (now (words .entry)) (table + e) x) ⌝ }
 {
     if e < NUMBERS {
         rows::has(words, table + e, x)

@@ -1,18 +1,23 @@
 -- The tables of the events on objects: each verdict is its decision's under the rows above it, and each list of effects is the code's.
 -- Assumes nothing.
 use mathlib.Core.Path.{_≡_, refl, ap, sym, _∙_}
+use mathlib.Core.Logic.{⊎-elim}
 use mathlib.Core.Bool.{Bool, true, false, not, _&&_, _||_, and-comm, and-eq-true-iff}
 use mathlib.Core.List.{List, [], _∷_}
 use Prim.Native.Nat.{ℕ, _≤_, _<_}
 use native.Mathlib.Omega.{arith}
 use lib.Dec.{eqb}
-use lib.ListN.{length}
-use borrow.Author.Tests.{lt-ltb}
+use borrow.Author.Tests.{eqb-true, lt-ltb}
+use Rattle.bits.specs.All.{anyB}
+use Rattle.bits.specs.AllLaws.{either, any-ext}
+use Rattle.rows.specs.Size.{present, numbers}
 use Rattle.levels.specs.declared.Order.{Order}
 use Rattle.levels.specs.Order.{atOrBelow}
-use Rattle.records.specs.Records.{numbers}
+use Rattle.records.specs.Records.{BytesLent, isObject, container}
+use Rattle.records.specs.KeepLaws.{lies-in}
 use Rattle.model.specs.Verdicts.{granted, slipped, row-number, row-driver, row-place, row-held, row-rule, row-filled}
-use Rattle.model.specs.State.{Memory, task, object, levelOf, readLevelOf, driverOf, containerOf, marked, hasWrite}
+use Rattle.model.specs.State.{Memory, task, object, levelOf, readLevelOf, driverOf, liesIn, marked, hasWrite}
+use Rattle.model.specs.Ready.{Ready}
 use Rattle.model.specs.Effects.{Effect, flow-if, read-access, write-access, move-to, clear, effect, effects}
 use Rattle.model.specs.Events.{Event, left, unless, firstFailing, verdictOf, outcome, read, write, move, delete}
 use Rattle.decisions.specs.declared.Decision.{Decision}
@@ -45,6 +50,11 @@ filled-last true true true true true true e = refl
 filled-last true true true true true false e = refl
 filled-last true true true true false true e = refl
 filled-last true true true true false false e = refl
+
+-- where the numbers are wrong, no container is asked
+filled-else : (a b : Bool) (v w : ℕ) → unlessFilled a (unless false row-number v) ≡ unlessFilled b (unless false row-number w)
+unfolding unless unlessFilled
+filled-else a b v w = refl
 
 -- an event on wrong numbers is refused with their row
 pub unnamed : (m : Memory) (e : Event) (named : Bool) (d x rest : ℕ) → verdictOf e ≡ driven (m .bytes) named d x rest → named ≡ false
@@ -105,8 +115,12 @@ module _ (o : Order) (m : Memory) where
   unfolding delete deleteDecided deleteDecision effects effect
   delete-told e d x k = record { verdict = refl; leaves = refl }
 
-  -- an access is looked for in its table, past which there is none
-  module _ (long : length (m .bytes) ≡ 1024) where
+  -- an access is looked for in its table, past which there is none; and an object's container by its byte
+  module _ (r : Ready o (m .bytes) (m .words)) where
+    lies : (x k : ℕ) → isObject (m .bytes) k ≡ true → liesIn m x k ≡ eqb (container (m .bytes) x) k
+    unfolding isObject
+    lies x k h = lies-in present o (m .bytes) (r .3) x k (eqb-true _ 2 h)
+
     pub move-verdict : (e d x f t : ℕ) → verdictOf (move o m e d x f t)
         ≡ moveRows (m .bytes) (m .words) e d x f t (apart (L x ⊑ L d) (moveDecided o m e d x t .verdict))
     unfolding verdictOf firstFailing unless move moveDecided moveDecision task object hasWrite moveNamed mayMove writes allWrite driven moveRows
@@ -114,7 +128,7 @@ module _ (o : Order) (m : Memory) where
         let honest = L x ⊑ L e in
         under (moveNamed (m .bytes) e d x f t) _ _ _
         (λ h. let p = simp and-eq-true-iff at h in
-        rw (lt-ltb e numbers (task-small m e long (p .0 .0 .0 .0)), lt-ltb d numbers (task-small m d long (p .0 .0 .0 .1)))
+        rw (lies x f (p .0 .1), lt-ltb e numbers (task-small m e (r .0) (p .0 .0 .0 .0)), lt-ltb d numbers (task-small m d (r .0) (p .0 .0 .0 .1)))
         (ap
         (λ (v : ℕ).
         unless (eqb (driverOf m x) d) row-driver
@@ -123,19 +137,29 @@ module _ (o : Order) (m : Memory) where
         (ap (λ (b : Bool). unless (honest || marked m d) row-rule (unless b row-rule (unless honest slipped granted))) (and-comm (L x ⊑ L d) (L x ⊑ L t))
         ∙ apart-joins true (honest || marked m d) (L x ⊑ L t) (L x ⊑ L d) honest)))
 
+    empty-is : (x : ℕ) → isObject (m .bytes) x ≡ true → not (anyB numbers (λ y. object m y && liesIn m y x)) ≡ isEmpty (m .bytes) x
+    unfolding object isEmpty
+    empty-is x h = ap not (any-ext numbers _ _ (λ y l. ap (λ (b : Bool). isObject (m .bytes) y && b) (lies y x h)))
+
     pub delete-verdict : (e d x k : ℕ) → verdictOf (delete o m e d x k)
         ≡ deleteRows (m .bytes) (m .words) e d x k (apart (L x ⊑ L d) (deleteDecided o m e d x .verdict))
-    unfolding verdictOf firstFailing delete deleteDecided deleteDecision task object hasWrite writes bothWrite isEmpty driven deleteRows
+    unfolding verdictOf firstFailing delete deleteDecided deleteDecision task object hasWrite writes bothWrite driven deleteRows
     delete-verdict e d x k =
-        let empty = isEmpty (m .bytes) x in
-        filled-last (task m e && task m d && object m x && object m k) (eqb (driverOf m x) d) (eqb (containerOf m x) k) (hasWrite m e k && hasWrite m d k) (L x ⊑ L e) (L x ⊑ L d) empty
-        ∙ ap (unlessFilled empty)
-        (under (task m e && task m d && object m x && object m k) _ _ _
+        filled-last named (eqb (driverOf m x) d) (liesIn m x k) (hasWrite m e k && hasWrite m d k) (L x ⊑ L e) (L x ⊑ L d) empty
+        ∙ ⊎-elim
         (λ h. let p = simp and-eq-true-iff at h in
-        rw (lt-ltb e numbers (task-small m e long (p .0 .0 .0)), lt-ltb d numbers (task-small m d long (p .0 .0 .1)))))
+        rw (empty-is x (p .0 .1), lies x k (p .1), lt-ltb e numbers (task-small m e (r .0) (p .0 .0 .0)), lt-ltb d numbers (task-small m d (r .0) (p .0 .0 .1))))
+        (λ h. rw h (filled-else empty (isEmpty (m .bytes) x) _ _))
+        (either named)
+      where
+        named : Bool
+        named = task m e && task m d && object m x && object m k
+
+        empty : Bool
+        empty = not (anyB numbers (λ y. object m y && liesIn m y x))
 
   -- ---- what a call that is done stores fits its place
-  module _ (long : length (m .bytes) ≡ 1024) {j : Decision} where
+  module _ (long : BytesLent (m .bytes)) {j : Decision} where
     pub read-fits : (e d x : ℕ) → j ≡ readJudged o m e d x → j .verdict ≤ slipped → e < numbers
     unfolding read
     read-fits e d x is h =

@@ -5,7 +5,8 @@ use mathlib.Core.List.{List}
 use Prim.Native.Nat.{ℕ}
 use lib.Dec.{eqb}
 use Rattle.bits.specs.All.{anyB}
-use Rattle.records.specs.Records.{numbers, driver, container, isTask, isObject}
+use Rattle.rows.specs.Size.{numbers}
+use Rattle.records.specs.Records.{driver, container, isTask, isObject}
 use Rattle.levels.specs.declared.Order.{Order}
 use Rattle.levels.specs.Order.{atOrBelow}
 use Rattle.model.specs.Verdicts.{granted, row-number, row-driver, row-place, row-held, row-filled}

@@ -2,21 +2,21 @@
 ghost use mathlib.Core.Path.{_≡_};
 ghost use mathlib.Core.List.{List, [], _∷_};
 ghost use Prim.Native.Nat.{ℕ, _<_};
-ghost use lib.ListN.{length};
+ghost use Rattle.rows.specs.Size.{numbers, WordsLent};
 ghost use Rattle.model.specs.State.{memory};
 ghost use Rattle.model.specs.Effects.{flow-if, read-access, write-access, move-to, clear, effects};
 use decisions::Decision;
 use decisions::effects::add_access;
 use decisions::effects::record_both;
-use decisions::facts::READS;
-use decisions::facts::WRITES;
 use records::CONTAINER;
 use records::FREE;
 use records::set_field;
 use records::set_record;
+use rows::READS;
+use rows::WRITES;
 
 pub fn read(words: &mut [u64], judged: Decision, e: u16, d: u16, x: u16)
-    requires { ⌜ e < 128 ⌝ }
+    requires { ⌜ e < numbers ⌝ }
     ensures { λ _. ⌜ ((bs : List ℕ) → memory bs (now (words .exit)) ≡ effects (read-access e x ∷ flow-if (judged .first) x e ∷ flow-if (judged .second) d e ∷ []) (memory bs (now (words .entry)))) ⌝ }
 {
     add_access(words, READS, e, x);
@@ -24,7 +24,7 @@ pub fn read(words: &mut [u64], judged: Decision, e: u16, d: u16, x: u16)
 }
 
 pub fn write(words: &mut [u64], judged: Decision, e: u16, d: u16, x: u16)
-    requires { ⌜ e < 128 ⌝ }
+    requires { ⌜ e < numbers ⌝ }
     ensures { λ _. ⌜ ((bs : List ℕ) → memory bs (now (words .exit)) ≡ effects (write-access e x ∷ flow-if (judged .first) e x ∷ flow-if (judged .second) e d ∷ []) (memory bs (now (words .entry)))) ⌝ }
 {
     add_access(words, WRITES, e, x);
@@ -40,7 +40,7 @@ pub fn move_object(
     x: u16,
     t: u16,
 )
-    requires { ⌜ t < 128 ⌝ }
+    requires { ⌜ t < numbers ⌝ }
     ensures { λ _. ⌜ memory (now (bytes .exit)) (now (words .exit)) ≡ effects (move-to x t ∷ flow-if (judged .first) e x ∷ flow-if (judged .second) e d ∷ []) (memory (now (bytes .entry)) (now (words .entry))) ⌝ }
 {
     set_field(bytes, x, CONTAINER, t as u8);
@@ -48,7 +48,7 @@ pub fn move_object(
 }
 
 pub fn delete(bytes: &mut [u8], words: &mut [u64], judged: Decision, e: u16, d: u16, x: u16)
-    requires { ⌜ (length (now words) ≡ 768) × (x < 128) ⌝ }
+    requires { ⌜ WordsLent (now words) × (x < numbers) ⌝ }
     ensures { λ _. ⌜ memory (now (bytes .exit)) (now (words .exit)) ≡ effects (clear x ∷ flow-if (judged .second) e d ∷ []) (memory (now (bytes .entry)) (now (words .entry))) ⌝ }
 {
     set_record(bytes, x, FREE, 0, 0, 0, 0, 0);

@@ -2,12 +2,11 @@
 ghost use mathlib.Core.Path.{_≡_};
 ghost use mathlib.Core.List.{List};
 ghost use Prim.Native.Nat.{ℕ};
-ghost use lib.ListN.{length};
 ghost use Rattle.model.specs.State.{memory};
+ghost use Rattle.model.specs.Ready.{Ready};
 ghost use Rattle.events.specs.Judged.{allWrite, mayMove, moveNamed, isEmpty, driven, unlessFilled, moveRows, deleteRows, readDecided, writeDecided, moveDecided, deleteDecided, readJudged, writeJudged, moveJudged, deleteJudged};
 use decisions::Decision;
 use decisions::apart;
-use decisions::facts::NUMBERS;
 use decisions::facts::are_named;
 use decisions::facts::below;
 use decisions::facts::both_write;
@@ -25,6 +24,7 @@ use records::CONTAINER;
 use records::LEVEL;
 use records::READ_LEVEL;
 use records::is_object;
+use rows::NUMBERS;
 
 // The rows of the numbers and of the driver of x, above the rest of the table.
 fn driven(bytes: &[u8], named: bool, d: u16, x: u16, rest: u8) -> u8
@@ -119,7 +119,7 @@ pub fn move_object(
     f: u16,
     t: u16,
 ) -> Decision
-    requires { ⌜ length (now bytes) ≡ 1024 ⌝ }
+    requires { ⌜ Ready order (now bytes) (now words) ⌝ }
     ensures { λ r. ⌜ r ≡ moveJudged order (memory (now (bytes .entry)) (now (words .entry))) e d x f t ⌝ }
 {
     let mut judged = move_decided(bytes, order, e, d, x, t);
@@ -168,7 +168,7 @@ fn delete_rows(bytes: &[u8], words: &[u64], e: u16, d: u16, x: u16, k: u16, rest
 }
 
 pub fn delete(bytes: &[u8], words: &[u64], order: Order, e: u16, d: u16, x: u16, k: u16) -> Decision
-    requires { ⌜ length (now bytes) ≡ 1024 ⌝ }
+    requires { ⌜ Ready order (now bytes) (now words) ⌝ }
     ensures { λ r. ⌜ r ≡ deleteJudged order (memory (now (bytes .entry)) (now (words .entry))) e d x k ⌝ }
 {
     let mut judged = delete_decided(bytes, order, e, d, x);

@@ -1,9 +1,7 @@
 // The events on objects: read, write, move and delete, each equal to its table in the model.
 ghost use mathlib.Core.Path.{_≡_};
-ghost use mathlib.Core.Bool.{true};
-ghost use lib.ListN.{length};
-ghost use Rattle.levels.specs.Order.{orderPasses};
 ghost use Rattle.model.specs.State.{memory};
+ghost use Rattle.model.specs.Ready.{Ready};
 ghost use Rattle.model.specs.Events as model;
 ghost use Rattle.model.specs.Events.{left, outcome};
 
@@ -24,7 +22,7 @@ pub fn read(
     driver: u16,
     object: u16,
 ) -> u8
-    requires { ⌜ (length (now bytes) ≡ 1024) × (length (now words) ≡ 768) × (orderPasses order ≡ true) ⌝ }
+    requires { ⌜ Ready order (now bytes) (now words) ⌝ }
     ensures { λ r. ⌜ left r 0 (now (bytes .entry)) (now (words .exit)) ≡ outcome (memory (now (bytes .entry)) (now (words .entry))) (model.read order (memory (now (bytes .entry)) (now (words .entry))) task driver object) ⌝ }
 {
     if !are_named(bytes, task, driver, object) {
@@ -45,7 +43,7 @@ pub fn write(
     driver: u16,
     object: u16,
 ) -> u8
-    requires { ⌜ (length (now bytes) ≡ 1024) × (length (now words) ≡ 768) × (orderPasses order ≡ true) ⌝ }
+    requires { ⌜ Ready order (now bytes) (now words) ⌝ }
     ensures { λ r. ⌜ left r 0 (now (bytes .entry)) (now (words .exit)) ≡ outcome (memory (now (bytes .entry)) (now (words .entry))) (model.write order (memory (now (bytes .entry)) (now (words .entry))) task driver object) ⌝ }
 {
     if !are_named(bytes, task, driver, object) {
@@ -68,7 +66,7 @@ pub fn move_object(
     from: u16,
     to: u16,
 ) -> u8
-    requires { ⌜ (length (now bytes) ≡ 1024) × (length (now words) ≡ 768) × (orderPasses order ≡ true) ⌝ }
+    requires { ⌜ Ready order (now bytes) (now words) ⌝ }
     ensures { λ r. ⌜ left r 0 (now (bytes .exit)) (now (words .exit)) ≡ outcome (memory (now (bytes .entry)) (now (words .entry))) (model.move order (memory (now (bytes .entry)) (now (words .entry))) task driver object from to) ⌝ }
 {
     let judged = judge::move_object(bytes, words, order, task, driver, object, from, to);
@@ -87,7 +85,7 @@ pub fn delete(
     object: u16,
     container: u16,
 ) -> u8
-    requires { ⌜ (length (now bytes) ≡ 1024) × (length (now words) ≡ 768) × (orderPasses order ≡ true) ⌝ }
+    requires { ⌜ Ready order (now bytes) (now words) ⌝ }
     ensures { λ r. ⌜ left r 0 (now (bytes .exit)) (now (words .exit)) ≡ outcome (memory (now (bytes .entry)) (now (words .entry))) (model.delete order (memory (now (bytes .entry)) (now (words .entry))) task driver object container) ⌝ }
 {
     let judged = judge::delete(bytes, words, order, task, driver, object, container);

@@ -5,11 +5,11 @@ use mathlib.Core.Bool.{Bool, true, false, not, _&&_}
 use mathlib.Core.List.{[], _∷_}
 use Prim.Native.Nat.{ℕ}
 use lib.Dec.{ltb, eqb}
-use lib.ListN.{length}
 use borrow.Author.Tests.{lt-ltb}
 use Rattle.bits.specs.AllLaws.{and-l, and-r}
+use Rattle.rows.specs.Size.{numbers}
 use Rattle.levels.specs.declared.Order.{Order}
-use Rattle.records.specs.Records.{numbers}
+use Rattle.records.specs.Records.{BytesLent}
 use Rattle.model.specs.Verdicts.{granted, row-number, row-place, row-held}
 use Rattle.model.specs.State.{Memory, inUse, task, object, hasFlow, hasRead}
 use Rattle.model.specs.Effects.{flow-if, effect, effects}
@@ -35,7 +35,7 @@ module _ (o : Order) (m : Memory) where
   find-is x z y v named row = rw (v, named, row)
 
   -- an access is looked for in its table, past which there is none
-  module _ (l : length (m .bytes) ≡ 1024) where
+  module _ (l : BytesLent (m .bytes)) where
     pub pass-verdict : (z x y : ℕ) → verdictOf (pass o m z x y)
         ≡ unless (task m z && object m x && inUse m y) row-number
         (unless (not (eqb y x)) row-place

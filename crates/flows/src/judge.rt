@@ -2,11 +2,10 @@
 ghost use mathlib.Core.Path.{_≡_};
 ghost use mathlib.Core.List.{List};
 ghost use Prim.Native.Nat.{ℕ};
-ghost use lib.ListN.{length};
+ghost use Rattle.records.specs.Records.{BytesLent};
 ghost use Rattle.model.specs.State.{memory};
 ghost use Rattle.flows.specs.Judged.{relayDecided, callJudged, invokeJudged, passJudged, postJudged, findJudged};
 use decisions::Decision;
-use decisions::facts::READS;
 use decisions::facts::below;
 use decisions::facts::has_access;
 use decisions::facts::in_use;
@@ -22,6 +21,7 @@ use records::LEVEL;
 use records::READ_LEVEL;
 use records::is_object;
 use records::is_task;
+use rows::READS;
 
 pub fn call_task(bytes: &[u8], order: Order, caller: u16, callee: u16) -> Decision
     ensures { λ r. ⌜ ((ws : List ℕ) → r ≡ callJudged order (memory (now (bytes .entry)) ws) caller callee) ⌝ }
@@ -64,7 +64,7 @@ fn relay(bytes: &[u8], order: Order, z: u16, x: u16) -> Decision
 }
 
 pub fn pass(bytes: &[u8], words: &[u64], order: Order, z: u16, x: u16, y: u16) -> Decision
-    requires { ⌜ length (now bytes) ≡ 1024 ⌝ }
+    requires { ⌜ BytesLent (now bytes) ⌝ }
     ensures { λ r. ⌜ r ≡ passJudged order (memory (now (bytes .entry)) (now (words .entry))) z x y ⌝ }
 {
     let mut judged = relay(bytes, order, z, x);
@@ -76,7 +76,7 @@ pub fn pass(bytes: &[u8], words: &[u64], order: Order, z: u16, x: u16, y: u16) -
 }
 
 pub fn post(bytes: &[u8], words: &[u64], order: Order, x: u16, z: u16, y: u16) -> Decision
-    requires { ⌜ length (now bytes) ≡ 1024 ⌝ }
+    requires { ⌜ BytesLent (now bytes) ⌝ }
     ensures { λ r. ⌜ r ≡ postJudged order (memory (now (bytes .entry)) (now (words .entry))) x z y ⌝ }
 {
     let mut judged = relay(bytes, order, y, z);

@@ -1,9 +1,7 @@
 // The events of flows alone: call, invoke, pass, post and find, each equal to its table in the model.
 ghost use mathlib.Core.Path.{_≡_};
-ghost use mathlib.Core.Bool.{true};
-ghost use lib.ListN.{length};
-ghost use Rattle.levels.specs.Order.{orderPasses};
 ghost use Rattle.model.specs.State.{memory};
+ghost use Rattle.model.specs.Ready.{Ready};
 ghost use Rattle.model.specs.Events as model;
 ghost use Rattle.model.specs.Events.{left, outcome};
 
@@ -14,7 +12,7 @@ use levels::Order;
 use model::SLIPPED;
 
 pub fn call_task(bytes: &[u8], words: &mut [u64], order: Order, caller: u16, callee: u16) -> u8
-    requires { ⌜ (length (now bytes) ≡ 1024) × (length (now words) ≡ 768) × (orderPasses order ≡ true) ⌝ }
+    requires { ⌜ Ready order (now bytes) (now words) ⌝ }
     ensures { λ r. ⌜ left r 0 (now (bytes .entry)) (now (words .exit)) ≡ outcome (memory (now (bytes .entry)) (now (words .entry))) (model.callTask order (memory (now (bytes .entry)) (now (words .entry))) caller callee) ⌝ }
 {
     let judged = judge::call_task(bytes, order, caller, callee);
@@ -25,7 +23,7 @@ pub fn call_task(bytes: &[u8], words: &mut [u64], order: Order, caller: u16, cal
 }
 
 pub fn invoke(bytes: &[u8], words: &mut [u64], order: Order, invoker: u16, invokee: u16) -> u8
-    requires { ⌜ (length (now bytes) ≡ 1024) × (length (now words) ≡ 768) × (orderPasses order ≡ true) ⌝ }
+    requires { ⌜ Ready order (now bytes) (now words) ⌝ }
     ensures { λ r. ⌜ left r 0 (now (bytes .entry)) (now (words .exit)) ≡ outcome (memory (now (bytes .entry)) (now (words .entry))) (model.invoke order (memory (now (bytes .entry)) (now (words .entry))) invoker invokee) ⌝ }
 {
     let judged = judge::invoke(bytes, order, invoker, invokee);
@@ -36,7 +34,7 @@ pub fn invoke(bytes: &[u8], words: &mut [u64], order: Order, invoker: u16, invok
 }
 
 pub fn pass(bytes: &[u8], words: &mut [u64], order: Order, z: u16, x: u16, y: u16) -> u8
-    requires { ⌜ (length (now bytes) ≡ 1024) × (length (now words) ≡ 768) × (orderPasses order ≡ true) ⌝ }
+    requires { ⌜ Ready order (now bytes) (now words) ⌝ }
     ensures { λ r. ⌜ left r 0 (now (bytes .entry)) (now (words .exit)) ≡ outcome (memory (now (bytes .entry)) (now (words .entry))) (model.pass order (memory (now (bytes .entry)) (now (words .entry))) z x y) ⌝ }
 {
     let judged = judge::pass(bytes, words, order, z, x, y);
@@ -47,7 +45,7 @@ pub fn pass(bytes: &[u8], words: &mut [u64], order: Order, z: u16, x: u16, y: u1
 }
 
 pub fn post(bytes: &[u8], words: &mut [u64], order: Order, x: u16, z: u16, y: u16) -> u8
-    requires { ⌜ (length (now bytes) ≡ 1024) × (length (now words) ≡ 768) × (orderPasses order ≡ true) ⌝ }
+    requires { ⌜ Ready order (now bytes) (now words) ⌝ }
     ensures { λ r. ⌜ left r 0 (now (bytes .entry)) (now (words .exit)) ≡ outcome (memory (now (bytes .entry)) (now (words .entry))) (model.post order (memory (now (bytes .entry)) (now (words .entry))) x z y) ⌝ }
 {
     let judged = judge::post(bytes, words, order, x, z, y);
@@ -58,7 +56,7 @@ pub fn post(bytes: &[u8], words: &mut [u64], order: Order, x: u16, z: u16, y: u1
 }
 
 pub fn find(bytes: &[u8], words: &mut [u64], order: Order, x: u16, z: u16, y: u16) -> u8
-    requires { ⌜ (length (now bytes) ≡ 1024) × (length (now words) ≡ 768) × (orderPasses order ≡ true) ⌝ }
+    requires { ⌜ Ready order (now bytes) (now words) ⌝ }
     ensures { λ r. ⌜ left r 0 (now (bytes .entry)) (now (words .exit)) ≡ outcome (memory (now (bytes .entry)) (now (words .entry))) (model.find order (memory (now (bytes .entry)) (now (words .entry))) x z y) ⌝ }
 {
     let judged = judge::find(bytes, words, order, x, z, y);

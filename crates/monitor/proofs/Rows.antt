@@ -5,7 +5,6 @@ use mathlib.Core.Bool.{Bool, true, false, not, _&&_, and-eq-true-iff}
 use mathlib.Core.List.{List, [], _∷_}
 use mathlib.Core.Logic.{inl, inr}
 use Prim.Native.Nat.{ℕ}
-use lib.ListN.{length}
 use native.Mathlib.Omega.{arith}
 use lib.Dec.{ltb}
 use borrow.Author.Tests.{eqb-true, eq-eqb, ltb-true, not-true, not-false}
@@ -17,6 +16,7 @@ use Rattle.levels.specs.Order.{orderPasses}
 use Rattle.records.specs.Records.{sound}
 use Rattle.model.specs.Verdicts.{row-state, row-order}
 use Rattle.model.specs.State.{Memory, lengthsFit}
+use Rattle.model.specs.Ready.{Ready}
 use Rattle.model.specs.Events.{Outcome, left}
 use Rattle.model.specs.Monitor.{perform, fitted, refusal, refusedUnless}
 use Rattle.model.proofs.Call.{the-type as the-call}
@@ -61,16 +61,12 @@ module _ (o : Order) (m : Memory) (c : Call) (later : c ≡ Start → ⊥) where
 
 -- ---- behind them
 
--- what the events ask of the memory and the order
-abbrev pub Ready : Order → Memory → Type 0
-Ready o m = (length (m .bytes) ≡ 1024) × (length (m .words) ≡ 768) × (orderPasses o ≡ true) × (sound o (m .bytes) ≡ true)
-
-pub ready : (o : Order) (m : Memory) → not (lengthsFit m && sound o (m .bytes)) ≡ false → not (orderPasses o) ≡ false → Ready o m
+pub ready : (o : Order) (m : Memory) → not (lengthsFit m && sound o (m .bytes)) ≡ false → not (orderPasses o) ≡ false → Ready o (m .bytes) (m .words)
 unfolding lengthsFit
 ready o m f p =
     let l = simp and-eq-true-iff at (not-false (lengthsFit m && sound o (m .bytes)) f) in (eqb-true _ _ (l .0 .0), eqb-true _ _ (l .0 .1), not-false _ p, l .1)
 
-through : (o : Order) (m : Memory) (out : Outcome) → Ready o m → out ≡ fitted o m out
+through : (o : Order) (m : Memory) (out : Outcome) → Ready o (m .bytes) (m .words) → out ≡ fitted o m out
 unfolding fitted lengthsFit
 through o m out r =
     rw (passed _ row-state m (refusedUnless (orderPasses o) row-order m out) (and-i (and-i (eq-eqb _ _ (r .0)) (eq-eqb _ _ (r .1))) (r .3)), passed _ row-order m out (r .2))
@@ -80,7 +76,7 @@ pub no-rounds : {out : Outcome} {v w n : ℕ} {bs ws : List ℕ} → (w ≡ v) �
 no-rounds {out} {v} {w} {n} {bs} {ws} p d = (λ i. left (p .0 i) (p .1 i) bs ws) ∙ d
 
 -- what a call leaves is its event's outcome, at the constructor that the call is
-pub answered : (o : Order) (m : Memory) {call k : Call} {out left : Outcome} → Ready o m → call ≡ k → perform o m k ≡ fitted o m out → left ≡ out → left ≡ perform o m call
+pub answered : (o : Order) (m : Memory) {call k : Call} {out left : Outcome} → Ready o (m .bytes) (m .words) → call ≡ k → perform o m k ≡ fitted o m out → left ≡ out → left ≡ perform o m call
 answered o m {call} {k} {out} {left} r c e d = d ∙ through o m out r ∙ sym e ∙ ap (perform o m) (sym c)
 
 -- ---- a start's tag is 0, and no other call's is

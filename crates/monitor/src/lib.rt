@@ -1,10 +1,10 @@
 // The monitor's public face: every call with its tally, the report, and what C and Rust link.
 ghost use mathlib.Core.Path.{_≡_};
 ghost use mathlib.Core.Bool.{true, _&&_};
-ghost use lib.ListN.{length};
 ghost use Rattle.records.specs.Records.{sound};
 ghost use Rattle.levels.specs.Order.{orderPasses};
 ghost use Rattle.model.specs.State.{memory, lengthsFit};
+ghost use Rattle.model.specs.Ready.{Ready};
 ghost use Rattle.model.specs.Events.{left};
 ghost use Rattle.model.specs.Monitor as model;
 ghost use Rattle.model.specs.Monitor.{raised, oneMore, started, nextMarked};
@@ -106,7 +106,7 @@ pub fn call_of(request: Request) -> Call
 fn lengths_fit(bytes: &[u8], words: &[u64]) -> bool
     ensures { λ r. ⌜ r ≡ lengthsFit (memory (now (bytes .entry)) (now (words .entry))) ⌝ }
 {
-    (bytes.len() == 1024) & (words.len() == 768)
+    (bytes.len() == records::BYTES) & (words.len() == rows::WORDS)
 }
 
 // The core alone, at the top; all else zero.
@@ -114,7 +114,7 @@ fn set_up(bytes: &mut [u8], words: &mut [u64], order: Order)
     requires { ⌜ (lengthsFit (memory (now bytes) (now words)) ≡ true) × (orderPasses order ≡ true) ⌝ }
     ensures { λ _. ⌜ memory (now (bytes .exit)) (now (words .exit)) ≡ started order ⌝ }
 {
-    let top = (order.top % 256) as u8;
+    let top = (order.top % 0x100) as u8;
     records::clear_all(bytes);
     records::set_record(bytes, 0, records::TASK, top, top, 0, 0, 0);
     rows::clear_all(words);
@@ -154,7 +154,7 @@ fn plain(verdict: u8) -> Answer
 
 // A call that has passed rows 2 and 3; a start tests for itself.
 fn event(bytes: &mut [u8], words: &mut [u64], order: Order, call: Call) -> Answer
-    requires { ⌜ (length (now bytes) ≡ 1024) × (length (now words) ≡ 768) × (orderPasses order ≡ true) × (sound order (now bytes) ≡ true) ⌝ }
+    requires { ⌜ Ready order (now bytes) (now words) ⌝ }
     ensures { λ r. ⌜ left (r .verdict) (r .rounds) (now (bytes .exit)) (now (words .exit)) ≡ model.perform order (memory (now (bytes .entry)) (now (words .entry))) call ⌝ }
 {
     match call {
@@ -274,7 +274,7 @@ pub extern "C" fn tupehiwo_report(bytes: &[u8], words: &[u64], order: Order) -> 
     marking::report(bytes, words, order)
 }
 
-// The lowest marked number of a report at or above a number; 128 where there is none.
+// The lowest marked number of a report at or above a number; where there is none, how many numbers there are.
 #[no_mangle]
 pub extern "C" fn tupehiwo_next_marked(report: Report, from: u16) -> u16
     ensures { λ r. ⌜ r ≡ nextMarked report from ⌝ }

@@ -4,6 +4,7 @@ use mathlib.Core.Path.{_≡_}
 use mathlib.Core.List.{List}
 use Prim.Native.Nat.{ℕ, _+_, _*_, _≤_}
 use lib.ListN.{length, take}
+use Rattle.rows.specs.Size.{numbers}
 use Rattle.model.specs.State.{memory}
 use Rattle.trail.specs.Script.{Progress, atEnd}
 use Rattle.trail.specs.Feeding.{lineSize, Reading, nothingFed, afterPiece, finished, emptied}
@@ -15,7 +16,7 @@ abbrev pub answerSize : ℕ
 answerSize = 8
 
 abbrev pub markedSize : ℕ
-markedSize = 1024
+markedSize = 8 * numbers
 
 -- the output buffer has room for the answers to a piece, eight bytes for each of its bytes, and for the last answer and the marked numbers
 abbrev pub Sized : List ℕ → List ℕ → List ℕ → Type 0

@@ -5,9 +5,9 @@ use mathlib.Core.Logic.{_⊎_}
 use mathlib.Core.Bool.{true}
 use mathlib.Core.List.{List, [], _∷_, _++_}
 use Prim.Native.Nat.{ℕ, _<_}
+use Rattle.rows.specs.Size.{numbers}
 use Rattle.levels.specs.declared.Order.{Order}
 use Rattle.levels.specs.Order.{mostLevels}
-use Rattle.records.specs.Records.{numbers}
 use Rattle.model.specs.declared.Call.the-variants.{Start}
 use Rattle.model.specs.State.{marked}
 use Rattle.model.specs.Verdicts.{row-order}

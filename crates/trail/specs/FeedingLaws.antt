@@ -4,12 +4,12 @@ use mathlib.Core.Path.{_≡_, refl, sym, ap, _∙_}
 use mathlib.Core.Logic.{inl, inr}
 use mathlib.Core.Bool.{true, false}
 use mathlib.Core.List.{List, [], _∷_, _++_, append-assoc, append-nil}
-use Prim.Native.Nat.{ℕ, zero, suc, _≤_}
+use Prim.Native.Nat.{ℕ, zero, suc}
 use native.Mathlib.Omega.{arith}
 use native.Mathlib.Decide.{decLe}
 use lib.Dec.{eqb}
 use lib.ListN.{length, take, drop, take-append-drop}
-use lib.Seq.{take-all, take-nil, append-snoc, length-take-le}
+use lib.Seq.{take-all, append-snoc, length-take-le}
 use Rattle.bits.specs.AllLaws.{either}
 use Rattle.script.specs.Script.{into, readLine}
 use Rattle.script.specs.ScriptLaws.{long-lines}

@@ -2,10 +2,9 @@
 -- Assumes nothing.
 use mathlib.Core.Bool.{Bool, cond}
 use mathlib.Core.List.{List, [], _∷_, _++_}
-use Prim.Native.Nat.{ℕ, zero, suc, _/_, _%_}
-use lib.ListN.{getD}
-use Rattle.bits.specs.Bit.{bit}
-use Rattle.records.specs.Records.{numbers}
+use Prim.Native.Nat.{ℕ, zero, suc}
+use Rattle.bits.specs.Bit.{inWords}
+use Rattle.rows.specs.Size.{numbers}
 use Rattle.model.specs.declared.Report.{Report}
 use Rattle.script.specs.Script.{space}
 use Rattle.script.specs.Print.{decimal, lineFeed}
@@ -21,7 +20,7 @@ listed p (suc k) = listed p k ++ cond (p k) (space ∷ decimal k) []
 
 -- the report has the bit of x
 abbrev pub isMarked : Report → ℕ → Bool
-isMarked r x = bit (getD (r .words) (x / 64) 0) (x % 64)
+isMarked r x = inWords (r .words) x
 
 unfoldable pub markedLine : Report → List ℕ
 markedLine r = markedText ++ listed (isMarked r) numbers ++ lineFeed ∷ []

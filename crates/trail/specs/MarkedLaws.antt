@@ -11,13 +11,15 @@ use native.Mathlib.Numerals.{add-one}
 use lib.ListN.{length, length-append}
 use lib.Dec.{ltb}
 use lib.Seq.{append-snoc}
-use borrow.Author.Tests.{ltb-false}
+use borrow.Author.Tests.{ltb-true, ltb-false}
 use Rattle.bits.specs.AllLaws.{either}
+use Rattle.rows.specs.Size.{numbers}
 use Rattle.model.specs.declared.Report.{Report}
-use Rattle.model.specs.Monitor.{nextMarked}
-use Rattle.marking.specs.FirstLaws.{First, first}
+use Rattle.model.specs.Monitor.{nextMarked, nextMarkedOf}
+use Rattle.marking.specs.FirstLaws.{First, first-of}
 use Rattle.script.specs.Print.{decimal, lineFeed, Printed}
 use Rattle.script.specs.PrintLaws.{then, small}
+use Rattle.trail.specs.Buffers.{markedSize}
 use Rattle.trail.specs.Marked.{markedText, listed, isMarked, markedLine}
 
 -- numbers that do not pass add nothing
@@ -46,22 +48,22 @@ listed-short p (suc n) =
       | inr e ↦ rw e (simp length-append (omega arith))
     ]
 
--- n is the next marked number from `from` on, or 128
+-- n is the next marked number from `from` on, or `numbers`
 pub record IsNext (r : Report) (from n : ℕ) : Type 0 where
-  pub within : n ≤ 128
+  pub within : n ≤ numbers
   pub above : from ≤ n
   pub same : listed (isMarked r) n ≡ listed (isMarked r) from
-  pub marked : n < 128 → isMarked r n ≡ true
+  pub marked : n < numbers → isMarked r n ≡ true
 
-pub next : (r : Report) (from n : ℕ) → from ≤ 128 → n ≡ nextMarked r from → IsNext r from n
-unfolding nextMarked
+pub next : (r : Report) (from n : ℕ) → from ≤ numbers → n ≡ nextMarked r from → IsNext r from n
+unfolding nextMarkedOf
 next r from n h e =
-    elim (either (ltb from 128)) [
-      | inl t ↦ by-first (rw (e, t) (first (128 - from) (isMarked r) from))
-      | inr t ↦ let z : from ≡ 128 = omega (arith, ltb-false from 128 t) in let y : n ≡ 128 = e ∙ rw t in record { within = omega arith; above = omega arith; same = rw (y, z); marked = λ l. absurd (omega arith) }
+    elim (either (ltb from numbers)) [
+      | inl t ↦ by-first (first-of (numbers - from) (omega (arith, ltb-true from numbers t)) (e ∙ rw t))
+      | inr t ↦ let z : from ≡ numbers = omega (arith, ltb-false from numbers t) in let y : n ≡ numbers = e ∙ rw t in record { within = omega arith; above = omega arith; same = rw (y, z); marked = λ l. absurd (omega arith) }
     ]
   where
-    by-first : First (128 - from) (isMarked r) from n → IsNext r from n
+    by-first : First (isMarked r) from numbers n → IsNext r from n
     by-first f =
         let z : from + (n - from) ≡ n = omega (arith, f .above) in
         record {
@@ -75,14 +77,14 @@ next r from n h e =
 
 pub record UpTo (r : Report) (l : List ℕ) (at : ℕ) (m : List ℕ) (e n : ℕ) : Type 0 where
   pub text : Printed l at (listed (isMarked r) n) m e
-  pub within : n ≤ 128
-  pub marked : n < 128 → isMarked r n ≡ true
+  pub within : n ≤ numbers
+  pub marked : n < numbers → isMarked r n ≡ true
 
 pub none-yet : (l : List ℕ) (at : ℕ) {r : Report} {n : ℕ} → IsNext r 0 n → UpTo r l at l at n
 unfolding listed
 none-yet l at i = record { text = rw (i .same) (record { stored = refl; ends = omega arith }); within = i .within; marked = i .marked }
 
-pub one-more : {r : Report} {l m m′ m″ : List ℕ} {at e e′ e″ n k : ℕ} → UpTo r l at m e n → n < 128 → Printed m e (32 ∷ []) m′ e′ → Printed m′ e′ (decimal n) m″ e″ → IsNext r (n + 1) k → UpTo r l at m″ e″ k
+pub one-more : {r : Report} {l m m′ m″ : List ℕ} {at e e′ e″ n k : ℕ} → UpTo r l at m e n → n < numbers → Printed m e (32 ∷ []) m′ e′ → Printed m′ e′ (decimal n) m″ e″ → IsNext r (n + 1) k → UpTo r l at m″ e″ k
 one-more {r} {n = n} u h p q i =
     record {
       text = rw (i .same, listed-more (isMarked r) n (u .marked h), ← append-snoc (listed (isMarked r) n) 32 (decimal n)) (then (then (u .text) p) q);
@@ -90,10 +92,10 @@ one-more {r} {n = n} u h p q i =
       marked = i .marked;
     }
 
-pub all-listed : {r : Report} {l m m′ m″ : List ℕ} {from at e e′ n : ℕ} → Printed l from markedText m at → UpTo r m at m′ e n → 128 ≤ n → Printed m′ e (lineFeed ∷ []) m″ e′ → Printed l from (markedLine r) m″ e′
+pub all-listed : {r : Report} {l m m′ m″ : List ℕ} {from at e e′ n : ℕ} → Printed l from markedText m at → UpTo r m at m′ e n → numbers ≤ n → Printed m′ e (lineFeed ∷ []) m″ e′ → Printed l from (markedLine r) m″ e′
 unfolding markedLine
-all-listed {n = n} p u h q = let z : n ≡ 128 = omega (arith, u .within) in rw (← z) (then (then p (u .text)) q)
+all-listed {n = n} p u h q = let z : n ≡ numbers = omega (arith, u .within) in rw (← z) (then (then p (u .text)) q)
 
-pub marked-short : (r : Report) → length (markedLine r) ≤ 1024
+pub marked-short : (r : Report) → length (markedLine r) ≤ markedSize
 unfolding markedLine markedText
-marked-short r = omega (arith, length-append (markedText ++ listed (isMarked r) 128) (lineFeed ∷ []), length-append markedText (listed (isMarked r) 128), listed-short (isMarked r) 128)
+marked-short r = omega (arith, length-append (markedText ++ listed (isMarked r) numbers) (lineFeed ∷ []), length-append markedText (listed (isMarked r) numbers), listed-short (isMarked r) numbers)

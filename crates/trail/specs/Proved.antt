@@ -2,30 +2,29 @@
 -- Assumes nothing.
 use mathlib.Core.Path.{_≡_, refl, sym, ap, _∙_}
 use mathlib.Core.Logic.{_⊎_, inl, inr, ⊎-elim}
-use mathlib.Core.Bool.{Bool, true, false, cond, true≢false, _&&_}
+use mathlib.Core.Bool.{true, false, cond, true≢false}
 use mathlib.Core.List.{List, [], _∷_, _++_, append-assoc, append-nil}
-use Prim.Native.Nat.{ℕ, zero, suc, _+_, _*_, _/_, _%_, _<_}
+use Prim.Native.Nat.{ℕ, _<_}
 use native.Mathlib.Omega.{arith}
-use native.Mathlib.Nat.{mod-lt, div-add-mod, div-lt-iff-lt-mul}
 use lib.Dec.{eqb}
-use lib.ListN.{getD, replicate, length-replicate}
+use lib.ListN.{length-replicate}
 use borrow.Author.Tests.{eq-eqb, eqb-true, lt-leb}
-use Rattle.bits.specs.Bit.{bit}
-use Rattle.bits.specs.BitLaws.{bit-zero, bit-word}
+use Rattle.bits.specs.WordsLaws.{in-zeros, in-words}
 use Rattle.bits.specs.AllLaws.{either, not-so, and-i, and-false}
+use Rattle.rows.specs.Size.{present, rowSize, numbers, lentWords}
 use Rattle.rows.specs.RowLaws.{cell-zeros}
 use Rattle.levels.specs.declared.Order.{Order}
 use Rattle.levels.specs.Order.{mostLevels, countFits, orderPasses}
-use Rattle.records.specs.Records.{numbers, recordSize, sound}
+use Rattle.records.specs.Records.{sound, lentBytes}
 use Rattle.records.specs.RecordLaws.{core-task}
 use Rattle.records.specs.KeepLaws.{field-zero}
 use Rattle.model.specs.declared.Call.{Call}
-use Rattle.model.specs.declared.Call.the-variants.{Start, Spread}
-use Rattle.model.specs.Verdicts.{granted, isDone, row-state, row-order}
-use Rattle.model.specs.State.{Memory, rowSize, tables, lengthsFit, marked, hasFlow}
+use Rattle.model.specs.declared.Call.the-variants.{Start}
+use Rattle.model.specs.Verdicts.{granted, isDone, row-order}
+use Rattle.model.specs.State.{Memory, lengthsFit, marked, hasFlow}
 use Rattle.model.specs.Events.{Outcome, outcome}
 use Rattle.model.specs.Spread.{spread}
-use Rattle.model.specs.Monitor.{refusal, refusedUnless, fitted, start, perform, markedWord, markedWords, noReport, report}
+use Rattle.model.specs.Monitor.{refusal, refusedUnless, fitted, start, perform, markedWords, noReport, report}
 use Rattle.model.specs.TableLaws.{Fitted, fitted-done, start-done, by-call, refused-keeps}
 use Rattle.script.specs.Script.{noOrder, startWord, pieces, isNumber, value, sameWord, startOf, lineOf, readLine, tooMany}
 use Rattle.script.specs.declared.Line.{Line}
@@ -119,7 +118,7 @@ start-order o s =
 -- zeros have no core
 zeros-unsound : sound noOrder (zeros .bytes) ≡ true → ⊥
 unfolding zeros
-zeros-unsound h = omega (arith, core-task noOrder _ h, field-zero (recordSize * numbers) 0 0)
+zeros-unsound h = omega (arith, core-task present noOrder _ h, field-zero (lentBytes present) 0 0)
 
 zeros-unfit : (out : Outcome) → isDone (fitted noOrder zeros out .verdict) ≡ false
 zeros-unfit out = not-so _ (λ h. zeros-unsound (fitted-done noOrder zeros out h .sound-bytes))
@@ -203,23 +202,23 @@ unfolding hasFlow zeros
 unstarted-contained =
     record {
       marks-covered = λ x l h. absurd (true≢false (sym h ∙ zeros-unmarked x));
-      flows-join = λ x y k l h. absurd (true≢false (sym h ∙ cell-zeros rowSize (rowSize * (numbers * tables)) _ y));
-      flows-end = λ x y k l h. absurd (true≢false (sym h ∙ cell-zeros rowSize (rowSize * (numbers * tables)) _ y));
+      flows-join = λ x y k l h. absurd (true≢false (sym h ∙ cell-zeros rowSize (lentWords present) _ y));
+      flows-end = λ x y k l h. absurd (true≢false (sym h ∙ cell-zeros rowSize (lentWords present) _ y));
     }
 
 pub script-contained : ScriptContained
 script-contained input =
     let e = ends input in
-    rw (e .0 .0, e .0 .1) (⊎-elim (λ h. rw h unstarted-contained) (λ b. rw (b .leaves) (containment (b .order) _ (b .items) (b .reached))) (e .1))
+    rw (e .0 .0, e .0 .1) (⊎-elim (λ h. rw h unstarted-contained) (λ b. rw (b .leaves) (containment present (b .order) _ (b .items) (b .reached))) (e .1))
 
 -- ---- the lengths are right; and the bytes are sound and the order passes, once a start was granted
 
 zeros-fit : lengthsFit zeros ≡ true
 unfolding lengthsFit zeros
-zeros-fit = and-i (eq-eqb _ _ (length-replicate {A = ℕ} (recordSize * numbers) 0)) (eq-eqb _ _ (length-replicate {A = ℕ} (rowSize * (numbers * tables)) 0))
+zeros-fit = and-i (eq-eqb _ _ (length-replicate {A = ℕ} (lentBytes present) 0)) (eq-eqb _ _ (length-replicate {A = ℕ} (lentWords present) 0))
 
 begun-fitted : (is : List Item) → Begun is → Fitted (standing is .order) (standing is .memory) (spread (standing is .memory))
-begun-fitted is b = rw (b .leaves) (fitted-done _ _ _ (ap isDone (spread-granted (b .order) _ (b .items) (b .reached))))
+begun-fitted is b = rw (b .leaves) (fitted-done _ _ _ (ap isDone (spread-granted present (b .order) _ (b .items) (b .reached))))
 
 ends-fit : (input : List ℕ) → lengthsFit (atEnd input .memory) ≡ true
 ends-fit input =
@@ -228,29 +227,15 @@ ends-fit input =
 
 -- ---- the report
 
--- the words have the bit of every marked number
-word-at : (m : Memory) (j i : ℕ) → j < 2 → i < 64 → bit (getD (markedWords m) j 0) i ≡ marked m (64 * j + i)
-unfolding markedWords markedWord
-word-at m zero i l h = bit-word (λ k. marked m (64 * 0 + k)) i h
-word-at m (suc zero) i l h = bit-word (λ k. marked m (64 * 1 + k)) i h
-word-at m (suc (suc j)) i l h = absurd (omega arith)
-
 fitted-report : {o : Order} {m : Memory} {out : Outcome} → Fitted o m out → (x : ℕ) → x < numbers → isMarked (report o m) x ≡ marked m x
-unfolding report
-fitted-report {m = m} f x h =
-    rw (f .lengths, f .sound-bytes, f .passes)
-    (word-at m (x / 64) (x % 64) (div-lt-iff-lt-mul {k = 64} {x = x} {y = 2} (omega arith) .1 h) (mod-lt x (omega arith)) ∙ ap (marked m) (div-add-mod x 64))
-
-no-word : (j i : ℕ) → bit (getD (0 ∷ 0 ∷ []) j 0) i ≡ false
-no-word zero i = bit-zero i
-no-word (suc zero) i = bit-zero i
-no-word (suc (suc j)) i = bit-zero i
+unfolding report markedWords
+fitted-report {m = m} f x h = rw (f .lengths, f .sound-bytes, f .passes) (in-words rowSize (marked m) x h)
 
 zeros-report : (x : ℕ) → isMarked (report noOrder zeros) x ≡ marked zeros x
 unfolding report noReport
 zeros-report x =
     let u : sound noOrder (zeros .bytes) ≡ false = not-so _ (λ h. zeros-unsound h) in
-    rw (zeros-fit, u) (no-word (x / 64) (x % 64) ∙ sym (zeros-unmarked x))
+    rw (zeros-fit, u) (in-zeros rowSize x ∙ sym (zeros-unmarked x))
 
 end-report : (input : List ℕ) (x : ℕ) → x < numbers → isMarked (report (atEnd input .run .order) (atEnd input .memory)) x ≡ marked (atEnd input .memory) x
 end-report input x h =

@@ -2,11 +2,12 @@
 -- Assumes nothing.
 use mathlib.Core.Bool.{cond}
 use mathlib.Core.List.{List, [], _∷_, _++_}
-use Prim.Native.Nat.{ℕ, _*_}
+use Prim.Native.Nat.{ℕ}
 use lib.Dec.{eqb}
 use lib.ListN.{replicate}
-use Rattle.records.specs.Records.{numbers, recordSize}
-use Rattle.model.specs.State.{Memory, memory, rowSize, tables}
+use Rattle.rows.specs.Size.{present, lentWords}
+use Rattle.records.specs.Records.{lentBytes}
+use Rattle.model.specs.State.{Memory, memory}
 use Rattle.model.specs.Monitor.{report}
 use Rattle.script.specs.Script.{noOrder, into}
 use Rattle.script.specs.Print.{lineFeed, replyLine}
@@ -34,7 +35,7 @@ firstRun = record { order = noOrder; tally = record { granted = 0; slipped = 0; 
 
 -- memory begins as zeros
 unfoldable pub zeros : Memory
-zeros = memory (replicate (recordSize * numbers) 0) (replicate (rowSize * (numbers * tables)) 0)
+zeros = memory (replicate (lentBytes present) 0) (replicate (lentWords present) 0)
 
 unfoldable pub nothingRead : Progress
 nothingRead = record { printed = []; run = firstRun; memory = zeros }

@@ -133,8 +133,8 @@ fn run(
 }
 
 fn main() {
-    let mut bytes = [0u8; 1024];
-    let mut words = [0u64; 768];
+    let mut bytes = [0u8; records::BYTES];
+    let mut words = [0u64; rows::WORDS];
     let mut input = [0u8; IN];
     let mut line = [0u8; feeding::KEPT];
     let mut out = [0u8; OUT];

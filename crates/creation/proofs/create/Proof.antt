@@ -1,4 +1,6 @@
+use mathlib.Core.Path.{refl}
 use borrow.Author.Needs.{needs}
+use Rattle.records.specs.Records.{within}
 use Rattle.decisions.specs.DecisionLaws.{done, refused}
 use Rattle.creation.specs.CreationLaws.{create-told, create-fits}
 use Rattle.creation.proofs.create.Statement.{statement}
@@ -12,7 +14,7 @@ create-requires-2 c κs =
 returns : tie.Need-returns
 returns c =
     let judged = c .before .before .before .before .before .before .before .before .before .create .ensures in
-    done (create-told _ _ _ _ _ _ _) judged (search) (c .before .before .before .before .create2 .ensures)
+    done (create-told _ _ _ _ _ _ _) judged (search) (c .before .before .before .before .create2 .ensures (within _) refl)
 
 returns-2 : tie.Need-returns-2
 returns-2 c = refused (create-told _ _ _ _ _ _ _) (c .before .before .create .ensures) (search)

@@ -1,5 +1,7 @@
+use mathlib.Core.Path.{refl}
 use mathlib.Core.List.{[]}
 use borrow.Author.Needs.{needs}
+use Rattle.records.specs.Records.{root}
 use Rattle.decisions.specs.DecisionLaws.{done, refused}
 use Rattle.creation.specs.CreationLaws.{root-told, root-fits}
 use Rattle.creation.proofs.create_root.Statement.{statement}
@@ -13,7 +15,7 @@ create-requires c κs =
 returns : tie.Need-returns
 returns c =
     let judged = c .before .before .before .before .before .before .before .before .before .create-root .ensures in
-    done (root-told _ _ _ _ _ _) (judged _) (search) (c .before .before .before .before .create .ensures)
+    done (root-told _ _ _ _ _ _) (judged _) (search) (c .before .before .before .before .create .ensures root refl)
 
 returns-2 : tie.Need-returns-2
 returns-2 c = refused (root-told _ _ _ _ _ _) (c .before .before .create-root .ensures _) (search)

@@ -3,9 +3,9 @@ use mathlib.Core.Bool.{Bool, false, _&&_}
 use Prim.Native.Nat.{ℕ}
 use lib.Dec.{ltb}
 use borrow.Author.Needs.{needs}
+use Rattle.rows.specs.Size.{numbers}
 use Rattle.levels.specs.declared.Order.{Order}
 use Rattle.levels.specs.Order.{inOrder, atOrBelow}
-use Rattle.records.specs.Records.{numbers}
 use Rattle.model.specs.Verdicts.{granted, row-scale, row-rule}
 use Rattle.model.specs.State.{Memory, task, object, levelOf, marked}
 use Rattle.model.specs.Events.{unless}

@@ -8,6 +8,7 @@ use native.Mathlib.Omega.{arith}
 use lib.Dec.{eqb}
 use Rattle.bits.specs.All.{anyB}
 use Rattle.bits.specs.AllLaws.{any-none, any-more, any-i}
+use Rattle.rows.specs.Size.{numbers}
 use Rattle.records.specs.Records.{field, isObject}
 use Rattle.events.specs.Judged.{isEmpty}
 use Rattle.events.proofs.judge.is_empty.Statement.{statement}
@@ -17,10 +18,10 @@ abbrev inside : List ℕ → ℕ → ℕ → Bool
 inside bytes x y = isObject bytes y && eqb (field bytes y 4) x
 
 abbrev Inv-loop : tie.InvT-loop
-Inv-loop bytes x y₀ y = (y ≤ 128) × (anyB y (inside bytes x) ≡ false)
+Inv-loop bytes x y₀ y = (y ≤ numbers) × (anyB y (inside bytes x) ≡ false)
 
 abbrev μ-loop : tie.MeasureT-loop
-μ-loop bytes x y₀ y = 128 - y
+μ-loop bytes x y₀ y = numbers - y
 
 loop-holds : tie.Need-loop-holds Inv-loop μ-loop
 loop-holds c = (omega arith, any-none _)
@@ -40,7 +41,7 @@ loop-again c =
 returns-2 : tie.Need-returns-2 Inv-loop μ-loop
 unfolding isEmpty
 returns-2 c =
-    let e : c .before .loop .y ≡ 128 = omega arith in
+    let e : c .before .loop .y ≡ numbers = omega arith in
     sym (ap not (rw e at (c .before .loop .inv .1)))
 
 pub is-empty-spec : {M : Type 1} → statement M

@@ -1,6 +1,7 @@
 use native.Mathlib.Omega.{arith}
 use Prim.Native.Nat.{_+_, _-_}
 use borrow.Author.Needs.{needs}
+use Rattle.rows.specs.Size.{numbers}
 use Rattle.script.specs.PrintLaws.{printed-length}
 use Rattle.trail.specs.Marked.{markedText}
 use Rattle.trail.specs.MarkedLaws.{IsNext, next, UpTo, none-yet, one-more, all-listed}
@@ -11,7 +12,7 @@ abbrev Inv-loop : tie.InvT-loop
 Inv-loop out₀ at report end₀ n₀ out end n = UpTo report out₀ end₀ out end n
 
 abbrev μ-loop : tie.MeasureT-loop
-μ-loop out₀ at report end₀ n₀ out end n = 128 - n
+μ-loop out₀ at report end₀ n₀ out end n = numbers - n
 
 loop-holds : tie.Need-loop-holds Inv-loop μ-loop
 loop-holds c = none-yet _ _ (next _ 0 _ (omega arith) (c .next-marked .ensures))
