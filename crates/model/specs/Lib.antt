@@ -6,6 +6,7 @@ pub mod Effects
 pub mod Events
 pub mod Spread
 pub mod Monitor
+pub mod Load
 pub mod MarkLaws
 pub mod SpreadLaws
 pub mod Trials

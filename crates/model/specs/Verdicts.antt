@@ -1,4 +1,4 @@
--- The verdicts by document 01's words, in the order of its table. Those of the table's rows 2 to 13 are refusals.
+-- The verdicts by the documents' words, in the order of their numbers. All from 2 on are refusals.
 -- Assumes nothing.
 use mathlib.Core.Bool.{Bool}
 use Prim.Native.Nat.{ℕ}
@@ -46,6 +46,13 @@ row-filled = 12
 
 abbrev pub row-still : ℕ
 row-still = 13
+
+-- document 02: these two stand after row 3, before any call
+abbrev pub row-form : ℕ
+row-form = 14
+
+abbrev pub row-deep : ℕ
+row-deep = 15
 
 -- granted or slipped: the effects are recorded
 abbrev pub isDone : ℕ → Bool

@@ -58,7 +58,14 @@ pub struct Report {
     pub verdict: u8,
 }
 
-// The verdicts, in the order of the table.
+// What a load would answer to a text before any call, and where the reader left: past the end of a text that is fit.
+#[repr(C)]
+pub struct Checked {
+    pub offset: u32,
+    pub verdict: u8,
+}
+
+// The verdicts, in the order of their numbers.
 pub const GRANTED: u8 = 0;
 
 pub const SLIPPED: u8 = 1;
@@ -86,3 +93,7 @@ pub const RULE: u8 = 11;
 pub const FILLED: u8 = 12;
 
 pub const STILL: u8 = 13;
+
+pub const FORM: u8 = 14;
+
+pub const DEEP: u8 = 15;
