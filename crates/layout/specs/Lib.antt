@@ -1,3 +1,5 @@
 pub mod Layout
 pub mod Reading
 pub mod Answers
+pub mod NumberLaws
+pub mod PlaceLaws
