@@ -3,3 +3,5 @@ pub mod Reading
 pub mod Answers
 pub mod NumberLaws
 pub mod PlaceLaws
+pub mod Quick
+pub mod QuickLaws
