@@ -3,3 +3,9 @@ pub mod Reading
 pub mod Answers
 pub mod NumberLaws
 pub mod PlaceLaws
+pub mod ReadingLaws
+pub mod NestLaws
+pub mod AnswerLaws
+pub mod SettledLaws
+pub mod Claims
+pub mod Proved
