@@ -2,14 +2,15 @@
 -- Assumes nothing.
 use mathlib.Core.Path.{_≡_, refl, sym, ap, _∙_}
 use mathlib.Core.Logic.{_⊎_, inl, inr}
-use mathlib.Core.Bool.{Bool, true, false, cond, _&&_, false≢true}
+use mathlib.Core.Bool.{Bool, true, false, cond}
 use mathlib.Core.List.{List, [], _∷_, _++_}
 use Prim.Native.Nat.{ℕ, zero, suc, _+_, _-_, _*_, _/_, _%_, _≤_, _<_}
 use native.Mathlib.Omega.{arith}
 use native.Mathlib.Decide.{decLt}
-use lib.Dec.{leb, ltb, eqb}
+use lib.Dec.{leb, eqb}
 use lib.ListN.{length, length-append}
-use borrow.Author.Tests.{eqb-true, eqb-false, eq-eqb, ne-eqb, le-leb, lt-leb, leb-true, lt-ltb, le-ltb}
+use borrow.Author.Tests.{eqb-true, eqb-false, eq-eqb, ne-eqb, le-leb, leb-true, lt-ltb, le-ltb}
+use Rattle.bits.specs.AllLaws.{and-l, and-r}
 use Rattle.layout.specs.Layout.{Object, Task, ObjectFits, TaskFits, mostNumber, closing, objectWord, driverWord, levelWord, taskWord, imageWord, readsWord, digit, decimal, fieldText, headText, taskText}
 use Rattle.layout.specs.Reading.{Reading, found, lost, after, expect, isDigit, moreDigits, number, field, head, taskAt}
 
@@ -41,14 +42,6 @@ unfolding expect
 expect-is c a t = rw (eq-eqb c c refl)
 
 -- ---- digits
-
-pub and-l : (a b : Bool) → (a && b) ≡ true → a ≡ true
-and-l true b e = refl
-and-l false b e = e
-
-pub and-r : (a b : Bool) → (a && b) ≡ true → b ≡ true
-and-r true b e = e
-and-r false b e = absurd (false≢true e)
 
 -- a digit stands in front
 unfoldable pub starts : List ℕ → Bool
@@ -108,7 +101,6 @@ decimal-two a b l h g =
 decimal-three : (a b c : ℕ) → 1 ≤ a → a ≤ 9 → b ≤ 9 → c ≤ 9 → decimal (10 * (10 * a + b) + c) ≡ digit a ∷ digit b ∷ digit c ∷ []
 unfolding decimal
 decimal-three a b c l h g i =
-    let n = 10 * (10 * a + b) + c in
     let p : (10 * (10 * a + b) + c) / 100 ≡ a = omega arith in
     let q : (10 * (10 * a + b) + c) / 10 % 10 ≡ b = omega arith in
     let r : (10 * (10 * a + b) + c) % 10 ≡ c = omega arith in

@@ -3,18 +3,18 @@
 use mathlib.Core.Path.{_≡_, refl, sym, ap, _∙_}
 use mathlib.Core.Bool.{Bool, true, false, cond, false≢true}
 use mathlib.Core.List.{List, [], _∷_, _++_}
-use Prim.Native.Nat.{ℕ, zero, suc, _+_, _-_, _*_, _≤_, _<_}
+use Prim.Native.Nat.{ℕ, _+_, _-_, _*_, _≤_, _<_}
 use native.Mathlib.Omega.{arith}
 use native.Mathlib.Numerals.{add-one}
 use native.Mathlib.Decide.{decLt}
-use lib.Dec.{eqb, leb}
+use lib.Dec.{eqb}
 use lib.ListN.{length, getD, drop, length-drop, drop-of-length-le}
 use lib.Seq.{drop-cons, drop-drop, drop-append-seam}
-use borrow.Author.Tests.{eqb-true, eq-eqb, ne-eqb, le-leb, lt-leb}
+use borrow.Author.Tests.{eqb-true, le-leb, lt-leb}
 use Rattle.layout.specs.Layout.{Object, Task, closing, objectWord, driverWord, levelWord, taskWord, imageWord, readsWord, digit, decimal, fieldText, headText, taskText}
 use Rattle.layout.specs.Reading.{Reading, found, lost, after, expect, isDigit, moreDigits, number, field, head, taskAt}
 use Rattle.layout.specs.Answers.{digitAt, standsAt, fieldAnswer, leftField, headAnswer, leftHead, taskAnswer, leftTask}
-use Rattle.layout.specs.NumberLaws.{found-inj, lost-found, starts, digit-is, digit-bounds, more-stop, more-digit, first-digit, field-read, head-read, task-read, field-longer, head-longer, task-longer, expect-is}
+use Rattle.layout.specs.NumberLaws.{starts, digit-is, digit-bounds, more-stop, more-digit, first-digit, field-read, head-read, task-read, field-longer, head-longer, task-longer, expect-is}
 use Rattle.layout.specs.declared.fields.Field.{Field}
 use Rattle.layout.specs.declared.fields.Field.the-variants.{Number, Missing}
 use Rattle.layout.specs.declared.fields.Heading.{Heading}

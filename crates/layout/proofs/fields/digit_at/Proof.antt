@@ -1,4 +1,3 @@
-use native.Mathlib.Omega.{arith}
 use borrow.Author.Needs.{needs}
 use Rattle.layout.specs.PlaceLaws.{digit-past, digit-low, digit-high, digit-here}
 use Rattle.layout.proofs.fields.digit_at.Statement.{statement}

@@ -1,8 +1,7 @@
 use mathlib.Core.Path.{_≡_, refl, _∙_}
-use Prim.Native.Nat.{_≤_, _-_, _+_}
+use Prim.Native.Nat.{_≤_, _-_}
 use native.Mathlib.Omega.{arith}
 use lib.ListN.{length, drop}
-use borrow.Author.Needs.{needs}
 use borrow.Author.Tests.{eq-eqb, ne-eqb}
 use Rattle.layout.specs.Reading.{field}
 use Rattle.layout.specs.PlaceLaws.{leaves-at, field-missing, word-step, word-short, word-end}
@@ -24,35 +23,17 @@ returns c =
     let a = s .before .before .before .args in
     field-missing _ _ _ (leaves-at (a .text .now) _ (s .loop .p) (s .loop .inv .2 ∙ word-short (a .text .now) (a .word .now) (s .loop .i) (s .loop .p) (omega arith) (c .if1 .taken)) (s .loop .inv .1))
 
-shared-slice-read-if2 : tie.Need-shared-slice-read-if2 Inv-loop μ-loop
-shared-slice-read-if2 c = omega arith
-
-shared-slice-read-if2-2 : tie.Need-shared-slice-read-if2-2 Inv-loop μ-loop
-shared-slice-read-if2-2 c = omega arith
-
 returns-2 : tie.Need-returns-2 Inv-loop μ-loop
 returns-2 c =
     let s = c .before .before .before .before .before in
     let a = s .before .before .before .args in
     field-missing _ _ _ (leaves-at (a .text .now) _ (s .loop .p) (s .loop .inv .2 ∙ word-step (a .text .now) (a .word .now) (s .loop .i) (s .loop .p) (omega arith) (omega arith) ∙ rw (ne-eqb _ _ (c .if2 .taken))) (s .loop .inv .1))
 
-add-i : tie.Need-add-i Inv-loop μ-loop
-add-i c = omega arith
-
-add-p : tie.Need-add-p Inv-loop μ-loop
-add-p c = omega arith
-
-loop-less : tie.Need-loop-less Inv-loop μ-loop
-loop-less c = omega arith
-
 loop-again : tie.Need-loop-again Inv-loop μ-loop
 loop-again c =
     let s = c .before .before .before .before .before in
     let a = s .before .before .before .args in
     (omega arith, omega arith, s .loop .inv .2 ∙ word-step (a .text .now) (a .word .now) (s .loop .i) (s .loop .p) (omega arith) (omega arith) ∙ rw (eq-eqb _ _ (c .if2 .left)))
-
-number-at-requires : tie.Need-number-at-requires Inv-loop μ-loop
-number-at-requires c κs = c .before .loop .inv .1
 
 returns-3 : tie.Need-returns-3 Inv-loop μ-loop
 returns-3 c =
@@ -68,12 +49,12 @@ field-at-spec =
     μ-loop
     loop-holds
     returns
-    shared-slice-read-if2
-    shared-slice-read-if2-2
+    (λ c. omega arith)
+    (λ c. omega arith)
     returns-2
-    add-i
-    add-p
-    loop-less
+    (λ c. omega arith)
+    (λ c. omega arith)
+    (λ c. omega arith)
     loop-again
-    number-at-requires
+    (λ c κs. c .before .loop .inv .1)
     returns-3)

@@ -1,5 +1,5 @@
 use mathlib.Core.Path.{sym, _∙_}
-use lib.ListN.{length, drop}
+use lib.ListN.{drop}
 use borrow.Author.Needs.{needs}
 use Rattle.layout.specs.Layout.{objectWord, driverWord, levelWord}
 use Rattle.layout.specs.Reading.{field}
