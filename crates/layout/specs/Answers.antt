@@ -53,6 +53,10 @@ unfoldable pub leftTask : Running → ℕ
 leftTask (Runs n i l r end) = end
 leftTask (Idle place) = place
 
+unfoldable pub leftAnswer : Answer → ℕ
+leftAnswer (Read end deeper) = end
+leftAnswer (Unread place) = place
+
 -- an object at a level, and whether a ninth level stands in it
 unfoldable pub objectAnswer : ℕ → ℕ → Reading (Object × Objects) → Answer
 objectAnswer level n (found f u) = Read (n - length u) (ltb mostDeep (level + depthOf (f .1)))
