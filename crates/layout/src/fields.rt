@@ -1,8 +1,8 @@
 // The numbers, words and brackets of a layout's text, read in place: the heads of objects, and tasks.
 ghost use mathlib.Core.Path.{_≡_};
 ghost use mathlib.Core.List.{List};
-ghost use Prim.Native.Nat.{ℕ, _+_, _≤_};
-ghost use lib.ListN.{length, drop};
+ghost use Prim.Native.Nat.{ℕ, _+_, _≤_, _<_};
+ghost use lib.ListN.{length, drop, getD};
 ghost use Rattle.layout.specs.Reading.{number, field, head, taskAt};
 ghost use Rattle.layout.specs.Answers.{digitAt, standsAt, fieldAnswer, leftField, headAnswer, leftHead, taskAnswer, leftTask};
 ghost use Rattle.layout.specs.Quick.{joined, quadAt, IsWord, QuickField, QuickHead, QuickTask};
@@ -243,9 +243,10 @@ fn join(a: u8, b: u8, c: u8, d: u8) -> u32
     (a as u32) + (b as u32) * 0x100 + (c as u32) * 0x1_0000 + (d as u32) * 0x100_0000
 }
 
+// The four bytes at `at` as one number; the text is known to be of bytes where one is read.
 fn quad(text: &[u8], at: usize) -> u32
     requires { ⌜ at + 4 ≤ length (now text) ⌝ }
-    ensures { λ r. ⌜ r ≡ quadAt (now (text .entry)) at ⌝ }
+    ensures { λ r. ⌜ (r ≡ quadAt (now (text .entry)) at) × ((i : ℕ) → getD (now (text .entry)) i 0 < 0x100) ⌝ }
 {
     join(text[at], text[at + 1], text[at + 2], text[at + 3])
 }
@@ -271,15 +272,33 @@ fn quick_head(text: &[u8], at: usize) -> Heading
     requires { ⌜ at ≤ length (now text) ⌝ }
     ensures { λ r. ⌜ QuickHead (length (now (text .entry))) (head (drop at (now (text .entry)))) r ⌝ }
 {
-    let first = quick_field(text, at, 8, join(b'(', b'o', b'b', b'j'), join(b'e', b'c', b't', b' '));
+    let first = quick_field(
+        text,
+        at,
+        8,
+        join(b'(', b'o', b'b', b'j'),
+        join(b'e', b'c', b't', b' '),
+    );
     let Field::Number { value: number, end } = first else {
         return Heading::Headless { at };
     };
-    let second = quick_field(text, end, 8, join(b' ', b'd', b'r', b'i'), join(b'v', b'e', b'r', b' '));
+    let second = quick_field(
+        text,
+        end,
+        8,
+        join(b' ', b'd', b'r', b'i'),
+        join(b'v', b'e', b'r', b' '),
+    );
     let Field::Number { value: driver, end } = second else {
         return Heading::Headless { at };
     };
-    let third = quick_field(text, end, 7, join(b' ', b'l', b'e', b'v'), join(b'v', b'e', b'l', b' '));
+    let third = quick_field(
+        text,
+        end,
+        7,
+        join(b' ', b'l', b'e', b'v'),
+        join(b'v', b'e', b'l', b' '),
+    );
     let Field::Number { value: level, end } = third else {
         return Heading::Headless { at };
     };
@@ -295,19 +314,43 @@ fn quick_task(text: &[u8], at: usize) -> Running
     requires { ⌜ at ≤ length (now text) ⌝ }
     ensures { λ r. ⌜ QuickTask (length (now (text .entry))) (taskAt (drop at (now (text .entry)))) r ⌝ }
 {
-    let first = quick_field(text, at, 6, join(b'(', b't', b'a', b's'), join(b'a', b's', b'k', b' '));
+    let first = quick_field(
+        text,
+        at,
+        6,
+        join(b'(', b't', b'a', b's'),
+        join(b'a', b's', b'k', b' '),
+    );
     let Field::Number { value: number, end } = first else {
         return Running::Idle { at };
     };
-    let second = quick_field(text, end, 7, join(b' ', b'i', b'm', b'a'), join(b'a', b'g', b'e', b' '));
+    let second = quick_field(
+        text,
+        end,
+        7,
+        join(b' ', b'i', b'm', b'a'),
+        join(b'a', b'g', b'e', b' '),
+    );
     let Field::Number { value: image, end } = second else {
         return Running::Idle { at };
     };
-    let third = quick_field(text, end, 7, join(b' ', b'l', b'e', b'v'), join(b'v', b'e', b'l', b' '));
+    let third = quick_field(
+        text,
+        end,
+        7,
+        join(b' ', b'l', b'e', b'v'),
+        join(b'v', b'e', b'l', b' '),
+    );
     let Field::Number { value: level, end } = third else {
         return Running::Idle { at };
     };
-    let fourth = quick_field(text, end, 7, join(b' ', b'r', b'e', b'a'), join(b'a', b'd', b's', b' '));
+    let fourth = quick_field(
+        text,
+        end,
+        7,
+        join(b' ', b'r', b'e', b'a'),
+        join(b'a', b'd', b's', b' '),
+    );
     let Field::Number { value: reads, end } = fourth else {
         return Running::Idle { at };
     };

@@ -1,67 +1,47 @@
+use mathlib.Core.Path.{sym, ap, _∙_}
+use native.Mathlib.Omega.{arith}
+use lib.ListN.{length}
 use borrow.Author.Needs.{needs}
+use Rattle.layout.specs.Answers.{fieldAnswer}
+use Rattle.layout.specs.Quick.{QuickField}
+use Rattle.layout.specs.QuickLaws.{word-stands, quick-told}
 use Rattle.layout.proofs.fields.quick_field.Statement.{statement}
 use Rattle.layout.proofs.fields.quick_field.Tie as tie
-use Rattle.layout.proofs.fields.quick_field.Reads as reads
-use Rattle.layout.proofs.fields.quick_field.Lts as lts
-use Rattle.layout.proofs.fields.number_at.Reads as number-at-reads
-use Rattle.layout.proofs.fields.quad.Reads as quad-reads
 
--- src/fields.rt:258:8
-sub-if1 : tie.Need-sub-if1
-sub-if1 c = search needs
-
--- src/fields.rt:259:9
 returns : tie.Need-returns
-returns c = ?
+unfolding QuickField
+returns c w i = tt
 
--- src/fields.rt:261:8
-quad-requires : tie.Need-quad-requires
-quad-requires c κs = search needs
-
--- src/fields.rt:262:9
 returns-2 : tie.Need-returns-2
-returns-2 c = ?
+unfolding QuickField
+returns-2 c w i = tt
 
--- src/fields.rt:264:19
-add-quad : tie.Need-add-quad
-add-quad c = search needs
-
--- src/fields.rt:264:19
-sub-quad : tie.Need-sub-quad
-sub-quad c = search needs
-
--- src/fields.rt:264:8
-quad-requires-2 : tie.Need-quad-requires-2
-quad-requires-2 c κs = search needs
-
--- src/fields.rt:265:9
 returns-3 : tie.Need-returns-3
-returns-3 c = ?
+unfolding QuickField
+returns-3 c w i = tt
 
--- src/fields.rt:267:21
-add-number-at : tie.Need-add-number-at
-add-number-at c = search needs
-
--- src/fields.rt:267:5
-number-at-requires : tie.Need-number-at-requires
-number-at-requires c κs = search needs
-
--- src/fields.rt:254:1
 returns-4 : tie.Need-returns-4
-returns-4 c = ?
+returns-4 c w i =
+    let s = c .before .before .before .before .before .before .before in
+    let l = s .args .text .now in
+    let first = c .before .before .before .before .quad .ensures in
+    let stands = word-stands l w (s .args .at) (s .args .size) (s .args .first) (s .args .last) (first .1) i (s .pre .1) (s .pre .2) (omega (arith, s .pre .0))
+    (sym (first .0) ∙ c .before .before .before .if2 .left)
+    (sym (c .before .before .quad2 .ensures .0) ∙ c .before .if3 .left) in
+    quick-told _ _ _ (c .number-at .ensures ∙ ap (fieldAnswer (length l)) (sym stands))
 
 pub quick-field-spec : {M : Type 1} → statement M
 quick-field-spec =
     tie.close
     (tie.spec
-    sub-if1
+    (λ c. search needs)
     returns
-    quad-requires
+    (λ c κs. search needs)
     returns-2
-    add-quad
-    sub-quad
-    quad-requires-2
+    (λ c. search needs)
+    (λ c. search needs)
+    (λ c κs. search needs)
     returns-3
-    add-number-at
-    number-at-requires
+    (λ c. search needs)
+    (λ c κs. search needs)
     returns-4)

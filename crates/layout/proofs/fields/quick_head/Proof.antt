@@ -1,107 +1,60 @@
+use mathlib.Core.Path.{refl, sym, _∙_}
+use native.Mathlib.Omega.{arith}
+use lib.ListN.{drop}
 use borrow.Author.Needs.{needs}
+use Rattle.layout.specs.Layout.{objectWord, driverWord, levelWord}
+use Rattle.layout.specs.Reading.{field}
+use Rattle.layout.specs.PlaceLaws.{Goes, head-whole, head-answer}
+use Rattle.layout.specs.Quick.{quadAt, QuickHead}
+use Rattle.layout.specs.QuickLaws.{quick-got, is-word}
 use Rattle.layout.proofs.fields.quick_head.Statement.{statement}
 use Rattle.layout.proofs.fields.quick_head.Tie as tie
-use Rattle.layout.proofs.fields.quick_head.Reads as reads
-use Rattle.layout.proofs.fields.quick_head.Lts as lts
-use Rattle.layout.proofs.fields.join.Reads as join-reads
-use Rattle.layout.proofs.fields.quick_field.Reads as quick-field-reads
 
--- src/fields.rt:274:42
-join-requires : tie.Need-join-requires
-join-requires c κs = search needs
+-- the number
+one : (c : tie.After-known-told) → let a = c .before .before .before .before .before .before .before .args in Goes (a .text .now) (a .at) (field objectWord (drop (a .at) (a .text .now))) (c .before .first .given .0 .0) (c .before .first .given .0 .1 .0)
+unfolding objectWord quadAt
+one c = quick-got _ objectWord _ _ _ _ (c .before .before .before .quick-field .ensures objectWord (is-word _ _ _ _ refl refl (sym (c .before .before .before .before .before .join .ensures)) (sym (c .before .before .before .before .join2 .ensures)))) (c .before .first .given .1)
 
--- src/fields.rt:274:72
-join-requires-2 : tie.Need-join-requires-2
-join-requires-2 c κs = search needs
+-- the driver
+two : (c : tie.After-known-told2) → let b = c .before .before .before .before .before .before in let l = b .before .before .before .before .before .before .before .args .text .now in let at = b .before .first .given .0 .1 .0 in Goes l at (field driverWord (drop at l)) (c .before .second .given .0 .0) (c .before .second .given .0 .1 .0)
+unfolding driverWord quadAt
+two c = quick-got _ driverWord _ _ _ _ (c .before .before .before .quick-field2 .ensures driverWord (is-word _ _ _ _ refl refl (sym (c .before .before .before .before .before .join3 .ensures)) (sym (c .before .before .before .before .join4 .ensures)))) (c .before .second .given .1)
 
--- src/fields.rt:274:9
-quick-field-requires : tie.Need-quick-field-requires
-quick-field-requires c κs = search needs
+-- the level
+three : (c : tie.After-known-told3) → let b = c .before .before .before .before .before .before in let l = b .before .before .before .before .before .before .before .before .before .before .before .before .before .args .text .now in let at = b .before .second .given .0 .1 .0 in Goes l at (field levelWord (drop at l)) (c .before .third .given .0 .0) (c .before .third .given .0 .1 .0)
+unfolding levelWord quadAt
+three c = quick-got _ levelWord _ _ _ _ (c .before .before .before .quick-field3 .ensures levelWord (is-word _ _ _ _ refl refl (sym (c .before .before .before .before .before .join5 .ensures)) (sym (c .before .before .before .before .join6 .ensures)))) (c .before .third .given .1)
 
--- src/fields.rt:275:32
-enum-known-first : tie.Need-enum-known-first
-enum-known-first c = search needs
-
--- src/fields.rt:276:9
-enum-told : tie.Need-enum-told
-enum-told c = search needs
-
--- src/fields.rt:276:9
 returns : tie.Need-returns
-returns c = ?
+unfolding QuickHead
+returns c = tt
 
--- src/fields.rt:278:44
-join-requires-3 : tie.Need-join-requires-3
-join-requires-3 c κs = search needs
-
--- src/fields.rt:278:74
-join-requires-4 : tie.Need-join-requires-4
-join-requires-4 c κs = search needs
-
--- src/fields.rt:278:9
 quick-field-requires-2 : tie.Need-quick-field-requires-2
-quick-field-requires-2 c κs = ?
+quick-field-requires-2 c κs = (one (c .before .before) .within, omega arith, omega arith)
 
--- src/fields.rt:279:32
-enum-known-second : tie.Need-enum-known-second
-enum-known-second c = search needs
-
--- src/fields.rt:280:9
-enum-told-2 : tie.Need-enum-told-2
-enum-told-2 c = search needs
-
--- src/fields.rt:280:9
 returns-2 : tie.Need-returns-2
-returns-2 c = ?
+unfolding QuickHead
+returns-2 c = tt
 
--- src/fields.rt:282:43
-join-requires-5 : tie.Need-join-requires-5
-join-requires-5 c κs = search needs
-
--- src/fields.rt:282:73
-join-requires-6 : tie.Need-join-requires-6
-join-requires-6 c κs = search needs
-
--- src/fields.rt:282:9
 quick-field-requires-3 : tie.Need-quick-field-requires-3
-quick-field-requires-3 c κs = ?
+quick-field-requires-3 c κs = (two (c .before .before) .within, omega arith, omega arith)
 
--- src/fields.rt:283:32
-enum-known-third : tie.Need-enum-known-third
-enum-known-third c = search needs
-
--- src/fields.rt:284:9
-enum-told-3 : tie.Need-enum-told-3
-enum-told-3 c = search needs
-
--- src/fields.rt:284:9
 returns-3 : tie.Need-returns-3
-returns-3 c = ?
+unfolding QuickHead
+returns-3 c = tt
 
--- src/fields.rt:270:1
 returns-4 : tie.Need-returns-4
-returns-4 c = ?
+unfolding QuickHead
+returns-4 c =
+    let d = c .before .before .before .before .before .before in
+    let n = one (d .before .before .before .before .before .before) in
+    head-answer _ _ _ _ (head-whole _ _ _ _ _ _ _ (n .is) (two d .is) (three c .is)) (three c .within)
 
 pub quick-head-spec : {M : Type 1} → statement M
 quick-head-spec =
     tie.close
     (tie.spec
-    join-requires
-    join-requires-2
-    quick-field-requires
-    enum-known-first
-    enum-told
-    returns
-    join-requires-3
-    join-requires-4
-    quick-field-requires-2
-    enum-known-second
-    enum-told-2
-    returns-2
-    join-requires-5
-    join-requires-6
-    quick-field-requires-3
-    enum-known-third
-    enum-told-3
-    returns-3
+    (λ c κs. search needs) (λ c κs. search needs) (λ c κs. search needs) (λ c. search needs) (λ c. search needs) returns
+    (λ c κs. search needs) (λ c κs. search needs) quick-field-requires-2 (λ c. search needs) (λ c. search needs) returns-2
+    (λ c κs. search needs) (λ c κs. search needs) quick-field-requires-3 (λ c. search needs) (λ c. search needs) returns-3
     returns-4)
