@@ -2,6 +2,7 @@
 ghost use mathlib.Core.Path.{_≡_};
 ghost use Prim.Native.Nat.{_≤_};
 ghost use lib.ListN.{length, drop};
+ghost use Rattle.layout.specs.Layout.{mostDeep};
 ghost use Rattle.layout.specs.Reading.{objectAt, objectsAt, formAt, opened, ninthFrom, settled};
 ghost use Rattle.layout.specs.Answers.{leftAnswer, nestAnswer, objectAnswer, objectsAnswer, formAnswer, textAnswer};
 
@@ -123,22 +124,22 @@ fn form(text: &[u8], at: usize, level: usize) -> Answer
 
 // The objects in one at a level, each after a line feed.
 fn forms(text: &[u8], at: usize, level: usize) -> Answer
-    requires { ⌜ (at ≤ length (now text)) × (level ≤ 8) ⌝ }
+    requires { ⌜ (at ≤ length (now text)) × (level ≤ mostDeep) ⌝ }
     ensures { λ r. ⌜ r ≡ objectsAnswer level (length (now (text .entry))) (objectsAt (drop at (now (text .entry)))) ⌝ }
 {
     let mut next = at;
-    let mut deepest = false;
+    let mut met = false;
     while is_at(text, next, b'\n') {
         let inner = form(text, next + 1, level + 1);
         let Answer::Read { end, deep } = inner else {
             return inner;
         };
         next = end;
-        deepest = deepest | deep;
+        met = met | deep;
     }
     Answer::Read {
         end: next,
-        deep: deepest,
+        deep: met,
     }
 }
 
@@ -168,7 +169,7 @@ fn form_at(text: &[u8], at: usize) -> Answer
 
 // The brackets that are open after a byte.
 fn opened_by(held: usize, b: u8) -> usize
-    requires { ⌜ held ≤ 8 ⌝ }
+    requires { ⌜ held ≤ mostDeep ⌝ }
     ensures { λ r. ⌜ r ≡ opened held b ⌝ }
 {
     if b == b'(' {
