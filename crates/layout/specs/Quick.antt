@@ -4,15 +4,17 @@ use mathlib.Core.Path.{_≡_}
 use mathlib.Core.List.{List}
 use Prim.Native.Nat.{ℕ, _+_, _-_, _*_, _<_}
 use lib.ListN.{length, getD}
-use Rattle.layout.specs.Layout.{Object, Task}
+use Rattle.layout.specs.Layout.{Object, Task, Objects}
 use Rattle.layout.specs.Reading.{Reading}
-use Rattle.layout.specs.Answers.{fieldAnswer, headAnswer, taskAnswer}
+use Rattle.layout.specs.Answers.{fieldAnswer, headAnswer, taskAnswer, objectAnswer}
 use Rattle.layout.specs.declared.fields.Field.{Field}
 use Rattle.layout.specs.declared.fields.Field.the-variants.{Number, Missing}
 use Rattle.layout.specs.declared.fields.Heading.{Heading}
 use Rattle.layout.specs.declared.fields.Heading.the-variants.{Holds, Headless}
 use Rattle.layout.specs.declared.fields.Running.{Running}
 use Rattle.layout.specs.declared.fields.Running.the-variants.{Runs, Idle}
+use Rattle.layout.specs.declared.Answer.{Answer}
+use Rattle.layout.specs.declared.Answer.the-variants.{Read, Unread}
 
 -- four bytes as one number, the first lowest
 abbrev pub joined : ℕ → ℕ → ℕ → ℕ → ℕ
@@ -39,3 +41,7 @@ QuickHead n r (Headless e) = Unit {0}
 unfoldable pub QuickTask : ℕ → Reading Task → Running → Type 0
 QuickTask n r (Runs a b c d e) = Runs a b c d e ≡ taskAnswer n r
 QuickTask n r (Idle e) = Unit {0}
+
+unfoldable pub QuickObject : ℕ → ℕ → Reading (Object × Objects) → Answer → Type 0
+QuickObject level n r (Read e d) = Read e d ≡ objectAnswer level n r
+QuickObject level n r (Unread e) = Unit {0}

@@ -11,16 +11,18 @@ use lib.ListN.{length, getD, drop}
 use borrow.Author.Tests.{eq-eqb, ltb-true}
 use Rattle.bits.specs.AllLaws.{and-l, and-r}
 use Rattle.layout.specs.Reading.{Reading, field, number}
-use Rattle.layout.specs.Layout.{Object, Task}
-use Rattle.layout.specs.Answers.{fieldAnswer, headAnswer, taskAnswer}
+use Rattle.layout.specs.Layout.{Object, Task, Objects}
+use Rattle.layout.specs.Answers.{fieldAnswer, headAnswer, taskAnswer, objectAnswer}
 use Rattle.layout.specs.PlaceLaws.{Goes, field-got, word-step, word-end}
-use Rattle.layout.specs.Quick.{joined, quadAt, IsWord, QuickField, QuickHead, QuickTask}
+use Rattle.layout.specs.Quick.{joined, quadAt, IsWord, QuickField, QuickHead, QuickTask, QuickObject}
 use Rattle.layout.specs.declared.fields.Field.{Field}
 use Rattle.layout.specs.declared.fields.Field.the-variants.{Number, Missing}
 use Rattle.layout.specs.declared.fields.Heading.{Heading}
 use Rattle.layout.specs.declared.fields.Heading.the-variants.{Holds}
 use Rattle.layout.specs.declared.fields.Running.{Running}
 use Rattle.layout.specs.declared.fields.Running.the-variants.{Runs}
+use Rattle.layout.specs.declared.Answer.{Answer}
+use Rattle.layout.specs.declared.Answer.the-variants.{Read}
 
 -- ---- bytes
 
@@ -103,6 +105,10 @@ head-told n r f a b c e q h = h ∙ subst (λ (g : Heading). QuickHead n r g) h 
 pub task-told : (n : ℕ) (r : Reading Task) (f : Running) (a b c d e : ℕ) → QuickTask n r f → f ≡ Runs a b c d e → f ≡ taskAnswer n r
 unfolding QuickTask
 task-told n r f a b c d e q h = h ∙ subst (λ (g : Running). QuickTask n r g) h q
+
+pub object-told : (level n : ℕ) (r : Reading (Object × Objects)) (f : Answer) (e : ℕ) (d : Bool) → QuickObject level n r f → f ≡ Read e d → f ≡ objectAnswer level n r
+unfolding QuickObject
+object-told level n r f e d q h = h ∙ subst (λ (g : Answer). QuickObject level n r g) h q
 
 -- ---- the words of the forms
 

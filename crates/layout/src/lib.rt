@@ -5,6 +5,7 @@ ghost use lib.ListN.{length, drop};
 ghost use Rattle.layout.specs.Layout.{mostDeep};
 ghost use Rattle.layout.specs.Reading.{objectAt, objectsAt, formAt, opened, ninthFrom, settled};
 ghost use Rattle.layout.specs.Answers.{leftAnswer, nestAnswer, objectAnswer, objectsAnswer, formAnswer, textAnswer};
+ghost use Rattle.layout.specs.Quick.{QuickObject};
 
 pub mod fields;
 
@@ -143,13 +144,49 @@ fn forms(text: &[u8], at: usize, level: usize) -> Answer
     }
 }
 
+// A root that holds nothing, read without the two functions that call each other; any other text is left to them.
+fn leaf(text: &[u8], at: usize) -> Answer
+    requires { ⌜ at ≤ length (now text) ⌝ }
+    ensures { λ r. ⌜ QuickObject 1 (length (now (text .entry))) (objectAt (drop at (now (text .entry)))) r ⌝ }
+{
+    let head = head_at(text, at);
+    let Heading::Holds {
+        number: _,
+        driver: _,
+        level: _,
+        end,
+    } = head
+    else {
+        return Answer::Unread { at };
+    };
+    if !is_at(text, end, b')') {
+        return Answer::Unread { at };
+    }
+    Answer::Read {
+        end: end + 1,
+        deep: false,
+    }
+}
+
+// A root object, from its opening bracket to its closing one.
+fn root(text: &[u8], at: usize) -> Answer
+    requires { ⌜ at ≤ length (now text) ⌝ }
+    ensures { λ r. ⌜ r ≡ objectAnswer 1 (length (now (text .entry))) (objectAt (drop at (now (text .entry)))) ⌝ }
+{
+    let leaf = leaf(text, at);
+    let Answer::Read { end: _, deep: _ } = leaf else {
+        return form(text, at, 1);
+    };
+    leaf
+}
+
 // A root object or a task.
 fn form_at(text: &[u8], at: usize) -> Answer
     requires { ⌜ at ≤ length (now text) ⌝ }
     ensures { λ r. ⌜ r ≡ formAnswer (length (now (text .entry))) (formAt (drop at (now (text .entry)))) ⌝ }
 {
     if !is_at(text, at + 1, b't') {
-        return form(text, at, 1);
+        return root(text, at);
     }
     let task = task_at(text, at);
     let Running::Runs {
