@@ -13,4 +13,5 @@ pub mod Trials
 pub mod TrialsProved
 pub mod TableLaws
 pub mod EffectLaws
+pub mod SoundLaws
 pub mod RiskLaws
