@@ -14,4 +14,5 @@ pub mod TrialsProved
 pub mod TableLaws
 pub mod EffectLaws
 pub mod SoundLaws
+pub mod LoadLaws
 pub mod RiskLaws
