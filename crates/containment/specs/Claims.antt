@@ -4,20 +4,21 @@ use mathlib.Core.Path.{_≡_}
 use mathlib.Core.Bool.{Bool, true, false, _||_}
 use mathlib.Core.Logic.{_⊎_, _↔_}
 use mathlib.Core.List.{List, [], _∷_, map, List·Memᴰ}
-use Prim.Native.Nat.{ℕ, _<_}
+use Prim.Native.Nat.{ℕ, _≤_, _<_}
 use lib.Dec.{eqb}
+use lib.ListN.{length}
 use Rattle.rows.specs.Size.{Size, numbersOf}
 use Rattle.levels.specs.declared.Order.{Order}
 use Rattle.levels.specs.Order.{atOrBelow, orderPasses}
 use Rattle.records.specs.Records.{recordSize, field, soundOf}
-use Rattle.layout.specs.Layout.{Layout, written}
+use Rattle.layout.specs.Layout.{Layout, Fits, depth, mostDeep, written, mostBytes}
 use Rattle.model.specs.declared.Call.{Call}
 use Rattle.model.specs.declared.Call.the-variants.{Start, Mark, Spread}
 use Rattle.model.specs.Verdicts.{granted, isDone, row-state, row-order, row-number, row-taken, row-scale, row-rule, row-form, row-deep}
 use Rattle.model.specs.State.{MemoryOf, lengthsFit, inUse, task, object, levelOf, driverOf, marked, hasFlow, hasRead, hasWrite}
 use Rattle.model.specs.Spread.{marksSome}
 use Rattle.model.specs.Monitor.{started, perform}
-use Rattle.model.specs.Load.{layoutCalls, load, pastOrder}
+use Rattle.model.specs.Load.{layoutCalls, inTurn, load, pastOrder}
 use Rattle.containment.specs.Lists.{Item, asks, loads, lent, StandingOf, next, run, Admissible, begun, Begins}
 use Rattle.containment.specs.Chains.{Chain}
 
@@ -127,6 +128,11 @@ pub record AsCalls {size : Size} (o : Order) (m : MemoryOf size) (t : List ℕ) 
 
 abbrev pub LoadIsList : Type 0
 LoadIsList = (size : Size) (o : Order) (m : MemoryOf size) (t : List ℕ) → load o m t .verdict ≡ granted → AsCalls o m t
+
+-- and the load of a layout's text gives what its calls give in turn after a start: 0, or the number of the first that is refused
+abbrev pub LoadTells : Type 0
+LoadTells = (size : Size) (o : Order) (m : MemoryOf size) (f : Layout) → lengthsFit m ≡ true → orderPasses o ≡ true → Fits f → depth f ≤ mostDeep → length (written f) ≤ mostBytes
+    → load o m (written f) .verdict ≡ inTurn o (layoutCalls f) (perform o m Start .memory) .verdict
 
 -- a load refused past row 3 leaves the state of a start, "the one exception for refused calls"
 abbrev pub RefusedLoad : Type 0

@@ -2,15 +2,16 @@
 -- Assumes nothing.
 use mathlib.Core.Path.{_≡_, refl, sym, ap, _∙_}
 use mathlib.Core.Bool.{Bool, true, false, _||_, true≢false, false≢true}
-use mathlib.Core.Logic.{inl, inr}
+use mathlib.Core.Logic.{inl, inr, _↔_}
 use mathlib.Core.List.{List, [], map}
-use Prim.Native.Nat.{ℕ}
+use Prim.Native.Nat.{ℕ, _≤_}
 use lib.Dec.{eqb}
+use lib.ListN.{length}
 use Rattle.bits.specs.AllLaws.{either}
 use Rattle.rows.specs.Size.{Size}
 use Rattle.levels.specs.declared.Order.{Order}
 use Rattle.levels.specs.Order.{orderPasses}
-use Rattle.layout.specs.Layout.{Layout, written}
+use Rattle.layout.specs.Layout.{Layout, Fits, depth, mostDeep, written, mostBytes}
 use Rattle.layout.specs.Reading.{Settled, fits, broken, deep, settled}
 use Rattle.model.specs.declared.Call.the-variants.{Start}
 use Rattle.model.specs.Verdicts.{granted, isDone, row-state, row-order, row-form, row-deep}
@@ -18,9 +19,9 @@ use Rattle.model.specs.State.{MemoryOf, lengthsFit}
 use Rattle.model.specs.Events.{OutcomeOf}
 use Rattle.model.specs.Monitor.{refusal, refusedUnless, start, started, perform}
 use Rattle.model.specs.Load.{layoutCalls, inTurn, laidOut, load, pastOrder}
-use Rattle.model.specs.LoadLaws.{laid-gives, laid-done, laid-refused, laid-sound, load-past, load-kept}
+use Rattle.model.specs.LoadLaws.{laid-gives, laid-tells, laid-done, laid-refused, laid-sound, load-past, load-kept}
 use Rattle.containment.specs.Lists.{Item, asks, loads, leaves, next, run, begun}
-use Rattle.containment.specs.Claims.{layoutGives, LayoutGives, LoadGives, LoadsSound, AsCalls, LoadIsList, RefusedLoad, UntouchedByLoad}
+use Rattle.containment.specs.Claims.{layoutGives, LayoutGives, LoadGives, LoadsSound, AsCalls, LoadIsList, LoadTells, RefusedLoad, UntouchedByLoad}
 use Rattle.containment.specs.Invariant.{standing, Invariant}
 use Rattle.containment.specs.CallsKeep.{started-keeps}
 use Rattle.containment.specs.LayoutCalls.{Goes, layout-goes, goes-gives, turn-gives, goes-granted, goes-run}
@@ -73,3 +74,47 @@ refused-load size o m t h r =
 pub untouched-by-load : UntouchedByLoad
 unfolding next
 untouched-by-load size o t s h = rw (h, load-kept o (s .memory) t h)
+
+-- ---- the text and the calls
+
+-- a layout whose calls are all done, past row 3
+at-calls : {size : Size} (o : Order) (m : MemoryOf size) (t : List ℕ) → pastOrder (load o m t .verdict) ≡ true → (f : Layout) → settled t ≡ fits f → written f ≡ t
+    → isDone (laidOut {size = size} o (fits f) .verdict) ≡ true → AsCalls o m t
+unfolding begun leaves
+at-calls {size} o m t h f e w g =
+    record {
+      layout = f;
+      text = w;
+      start-granted = ap (λ (out : OutcomeOf size). out .verdict) out;
+      all-granted = rw out (goes-granted o (layoutCalls f) (started o) (goes size o (d .1) f) (l .0));
+      leaves-same =
+          ap (λ (out : OutcomeOf size). standing o (out .memory) []) (d .2 ∙ ap (laidOut o) e ∙ l .1)
+          ∙ goes-run o (layoutCalls f) (started o) (goes size o (d .1) f) (l .0)
+          ∙ ap (λ (out : OutcomeOf size). run (map (asks o) (layoutCalls f)) (standing o (out .memory) [])) (sym out);
+    }
+  where
+    d : (lengthsFit m ≡ true) × (orderPasses o ≡ true) × (load o m t ≡ laidOut o (settled t))
+    d = load-past o m t h
+
+    out : start o m ≡ record { verdict = granted; rounds = 0; memory = started o }
+    out = start-out o m (d .0) (d .1)
+
+    l : (isDone (inTurn {size = size} o (layoutCalls f) (started o) .verdict) ≡ true) × (laidOut {size = size} o (fits f) ≡ inTurn o (layoutCalls f) (started o))
+    l = laid-done size o f g
+
+module _ (settles : (t : List ℕ) (f : Layout) → (settled t ≡ fits f) ↔ (Fits f × (written f ≡ t) × (depth f ≤ mostDeep) × (length t ≤ mostBytes))) where
+  pub load-is-list : LoadIsList
+  load-is-list size o m t h = go (settled t) refl (ap isDone (sym (ap (λ (out : OutcomeOf size). out .verdict) (load-past o m t past .2)) ∙ h))
+    where
+      past : pastOrder (load o m t .verdict) ≡ true
+      past = unfold pastOrder in rw h
+
+      go : (s : Settled) → settled t ≡ s → isDone (laidOut {size = size} o s .verdict) ≡ true → AsCalls o m t
+      go (fits f) e g = at-calls o m t past f e (settles t f .0 e .1) g
+      go (broken place) e g = unfold laidOut refusal in absurd (false≢true g)
+      go (deep place) e g = unfold laidOut refusal in absurd (false≢true g)
+
+  pub load-tells : LoadTells
+  unfolding load refusedUnless
+  load-tells size o m f l p a b c =
+      rw (l, p, settles (written f) f .1 (a, refl, b, c), start-out o m l p) (laid-tells size o f)

@@ -80,10 +80,15 @@ module _ {size : Size} (o : Order) where
 -- ---- a load past row 3
 
 module _ (size : Size) (o : Order) where
+  -- the number of a refused call is given
+  pub laid-tells : (f : Layout) → laidOut {size = size} o (fits f) .verdict ≡ inTurn {size = size} o (layoutCalls f) (started o) .verdict
+  unfolding laidOut whole refusal
+  laid-tells f = elim (either (isDone (inTurn {size = size} o (layoutCalls f) (started o) .verdict))) [ inl d ↦ rw d | inr d ↦ rw d ]
+
   -- what a load gives: 14, 15, or what its calls give
   pub laid-gives : (P : ℕ → Type 0) → P row-form → P row-deep → ((f : Layout) → P (inTurn {size = size} o (layoutCalls f) (started o) .verdict)) → (s : Settled) → P (laidOut {size = size} o s .verdict)
-  unfolding laidOut whole refusal
-  laid-gives P a b calls (fits f) = ⊎-elim (λ h. rw h (calls f)) (λ h. rw h (calls f)) (either (isDone (inTurn {size = size} o (layoutCalls f) (started o) .verdict)))
+  unfolding laidOut refusal
+  laid-gives P a b calls (fits f) = rw (laid-tells f) (calls f)
   laid-gives P a b calls (broken place) = a
   laid-gives P a b calls (deep place) = b
 
