@@ -2,16 +2,16 @@
 -- Assumes nothing.
 use mathlib.Core.Path.{_≡_, refl, sym, ap, _∙_}
 use mathlib.Core.Bool.{Bool, true, false, _||_, true≢false, false≢true}
-use mathlib.Core.Logic.{inl, inr, _↔_}
+use mathlib.Core.Logic.{inl, inr}
 use mathlib.Core.List.{List, [], map}
-use Prim.Native.Nat.{ℕ, _≤_}
+use Prim.Native.Nat.{ℕ}
 use lib.Dec.{eqb}
-use lib.ListN.{length}
 use Rattle.bits.specs.AllLaws.{either}
 use Rattle.rows.specs.Size.{Size}
 use Rattle.levels.specs.declared.Order.{Order}
 use Rattle.levels.specs.Order.{orderPasses}
-use Rattle.layout.specs.Layout.{Layout, Fits, depth, mostDeep, written, mostBytes}
+use Rattle.layout.specs.Layout.{Layout, written}
+use Rattle.layout.specs.Proved.{settles-all}
 use Rattle.layout.specs.Reading.{Settled, fits, broken, deep, settled}
 use Rattle.model.specs.declared.Call.the-variants.{Start}
 use Rattle.model.specs.Verdicts.{granted, isDone, row-state, row-order, row-form, row-deep}
@@ -102,19 +102,17 @@ at-calls {size} o m t h f e w g =
     l : (isDone (inTurn {size = size} o (layoutCalls f) (started o) .verdict) ≡ true) × (laidOut {size = size} o (fits f) ≡ inTurn o (layoutCalls f) (started o))
     l = laid-done size o f g
 
-module _ (settles : (t : List ℕ) (f : Layout) → (settled t ≡ fits f) ↔ (Fits f × (written f ≡ t) × (depth f ≤ mostDeep) × (length t ≤ mostBytes))) where
-  pub load-is-list : LoadIsList
-  load-is-list size o m t h = go (settled t) refl (ap isDone (sym (ap (λ (out : OutcomeOf size). out .verdict) (load-past o m t past .2)) ∙ h))
-    where
-      past : pastOrder (load o m t .verdict) ≡ true
-      past = unfold pastOrder in rw h
+pub load-is-list : LoadIsList
+load-is-list size o m t h = go (settled t) refl (ap isDone (sym (ap (λ (out : OutcomeOf size). out .verdict) (load-past o m t past .2)) ∙ h))
+  where
+    past : pastOrder (load o m t .verdict) ≡ true
+    past = unfold pastOrder in rw h
 
-      go : (s : Settled) → settled t ≡ s → isDone (laidOut {size = size} o s .verdict) ≡ true → AsCalls o m t
-      go (fits f) e g = at-calls o m t past f e (settles t f .0 e .1) g
-      go (broken place) e g = unfold laidOut refusal in absurd (false≢true g)
-      go (deep place) e g = unfold laidOut refusal in absurd (false≢true g)
+    go : (s : Settled) → settled t ≡ s → isDone (laidOut {size = size} o s .verdict) ≡ true → AsCalls o m t
+    go (fits f) e g = at-calls o m t past f e (settles-all t f .0 e .1) g
+    go (broken place) e g = unfold laidOut refusal in absurd (false≢true g)
+    go (deep place) e g = unfold laidOut refusal in absurd (false≢true g)
 
-  pub load-tells : LoadTells
-  unfolding load refusedUnless
-  load-tells size o m f l p a b c =
-      rw (l, p, settles (written f) f .1 (a, refl, b, c), start-out o m l p) (laid-tells size o f)
+pub load-tells : LoadTells
+unfolding load refusedUnless
+load-tells size o m f l p a b c = rw (l, p, settles-all (written f) f .1 (a, refl, b, c), start-out o m l p) (laid-tells size o f)
