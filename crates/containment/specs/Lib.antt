@@ -1,7 +1,6 @@
 pub mod Lists
 pub mod Chains
 pub mod Claims
-pub mod Soundness
 pub mod Tables
 pub mod Invariant
 pub mod Follows
@@ -9,7 +8,10 @@ pub mod Changes
 pub mod Preserve
 pub mod FlowEvents
 pub mod RecordEvents
+pub mod CallsKeep
+pub mod LayoutCalls
 pub mod ItemsKeep
 pub mod SpreadProof
 pub mod Witness
+pub mod LoadProof
 pub mod Proved

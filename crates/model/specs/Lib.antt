@@ -11,6 +11,10 @@ pub mod MarkLaws
 pub mod SpreadLaws
 pub mod Trials
 pub mod TrialsProved
+pub mod LoadTrial
+pub mod LoadTrialProved
 pub mod TableLaws
 pub mod EffectLaws
+pub mod SoundLaws
+pub mod LoadLaws
 pub mod RiskLaws
