@@ -1,4 +1,4 @@
--- The claims of demand 3, each a short definition, for a state of either size; the proofs stand in Proved.antt.
+-- The claims of demand 3 and those about loads, each a short definition, for a state of either size; the proofs stand in Proved.antt.
 -- Assumes nothing.
 use mathlib.Core.Path.{_≡_}
 use mathlib.Core.Bool.{Bool, true, false, _||_}

@@ -2,18 +2,18 @@
 -- Assumes nothing.
 use mathlib.Core.Path.{_≡_, refl, sym, ap, _∙_}
 use mathlib.Core.Bool.{Bool, true, false, _||_, _&&_, and-eq-true-iff, true≢false, false≢true}
-use mathlib.Core.Logic.{_⊎_, inl, inr, ⊎-elim}
+use mathlib.Core.Logic.{inl, inr}
 use mathlib.Core.List.{List, [], _∷_, _++_, map, List·Memᴰ·not-nil}
 use Prim.Native.Nat.{ℕ, zero, suc, _<_}
 use native.Mathlib.Omega.{arith}
-use lib.Dec.{eqb, ltb}
+use lib.Dec.{eqb}
 use borrow.Author.Tests.{eq-eqb, leb-true, ltb-true, not-true}
 use Rattle.bits.specs.AllLaws.{either, not-so, and-i, or-l, or-r}
 use Rattle.rows.specs.RowLaws.{some-number}
 use Rattle.rows.specs.Size.{Size, numbersOf}
 use Rattle.levels.specs.declared.Order.{Order}
-use Rattle.levels.specs.Order.{atOrBelow, inOrder}
-use Rattle.records.specs.Records.{Place, root, within, recordSize, field, setRecord, isObject}
+use Rattle.levels.specs.Order.{atOrBelow}
+use Rattle.records.specs.Records.{recordSize, field, setRecord, isObject}
 use Rattle.records.specs.RecordLaws.{record-else, record-same}
 use Rattle.layout.specs.Layout as layout
 use Rattle.layout.specs.Layout.{Objects, none, object, Form, Layout}
@@ -23,13 +23,13 @@ use Rattle.model.specs.Verdicts.{granted, slipped, isDone}
 use Rattle.model.specs.State as state
 use Rattle.model.specs.State.{MemoryOf, inUse, task, levelOf, driverOf, marked, hasWrite}
 use Rattle.model.specs.StateLaws.{task-used, object-used, used-below, marked-below}
-use Rattle.model.specs.Effects.{Effect, flow, flow-if, write-access, make-task, make-object, effect, effects}
-use Rattle.model.specs.EffectLaws.{Long, fit-long, effect-long, write-after, object-after, driver-after}
+use Rattle.model.specs.Effects.{flow, flow-if, write-access, effect, effects}
+use Rattle.model.specs.EffectLaws.{Long, fit-long, effect-long, write-after}
 use Rattle.model.specs.Events.{OutcomeOf, unless, firstFailing, verdictOf, outcome, write, execute, create, createRoot}
 use Rattle.model.specs.Monitor.{fitted, perform}
 use Rattle.model.specs.TableLaws.{Happened, event-done, fitted-fits}
 use Rattle.model.specs.Load.{innerCalls, formCalls, layoutCalls, inTurn}
-use Rattle.containment.specs.Lists.{asks, Role, other, role, entered, next, run}
+use Rattle.containment.specs.Lists.{asks, other, role, entered, next, run}
 use Rattle.containment.specs.Claims.{layoutGives, GiveThese, AllGranted}
 use Rattle.containment.specs.Invariant.{standing, Invariant}
 use Rattle.containment.specs.Follows.{Same, same-use, same-object}

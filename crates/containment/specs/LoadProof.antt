@@ -1,7 +1,7 @@
 -- What a load gives and leaves: the claims about loads, proved.
 -- Assumes nothing.
 use mathlib.Core.Path.{_≡_, refl, sym, ap, _∙_}
-use mathlib.Core.Bool.{Bool, true, false, _||_, true≢false, false≢true}
+use mathlib.Core.Bool.{true, false, _||_, false≢true}
 use mathlib.Core.Logic.{inl, inr}
 use mathlib.Core.List.{List, [], map}
 use Prim.Native.Nat.{ℕ}
@@ -13,14 +13,13 @@ use Rattle.levels.specs.Order.{orderPasses}
 use Rattle.layout.specs.Layout.{Layout, written}
 use Rattle.layout.specs.Proved.{settles-all}
 use Rattle.layout.specs.Reading.{Settled, fits, broken, deep, settled}
-use Rattle.model.specs.declared.Call.the-variants.{Start}
 use Rattle.model.specs.Verdicts.{granted, isDone, row-state, row-order, row-form, row-deep}
 use Rattle.model.specs.State.{MemoryOf, lengthsFit}
 use Rattle.model.specs.Events.{OutcomeOf}
-use Rattle.model.specs.Monitor.{refusal, refusedUnless, start, started, perform}
+use Rattle.model.specs.Monitor.{refusal, refusedUnless, start, started}
 use Rattle.model.specs.Load.{layoutCalls, inTurn, laidOut, load, pastOrder}
 use Rattle.model.specs.LoadLaws.{laid-gives, laid-tells, laid-done, laid-refused, laid-sound, load-past, load-kept}
-use Rattle.containment.specs.Lists.{Item, asks, loads, leaves, next, run, begun}
+use Rattle.containment.specs.Lists.{asks, loads, leaves, next, run, begun}
 use Rattle.containment.specs.Claims.{layoutGives, LayoutGives, LoadGives, LoadsSound, AsCalls, LoadIsList, LoadTells, RefusedLoad, UntouchedByLoad}
 use Rattle.containment.specs.Invariant.{standing, Invariant}
 use Rattle.containment.specs.CallsKeep.{started-keeps}

@@ -1,7 +1,7 @@
 -- What calls in turn leave, and a load: the state of a start or what its calls leave, sound, whatever the memory lent held.
 -- Assumes nothing.
-use mathlib.Core.Path.{_≡_, refl, sym, ap, _∙_}
-use mathlib.Core.Logic.{_⊎_, inl, inr, ⊎-elim}
+use mathlib.Core.Path.{_≡_, refl, sym, _∙_}
+use mathlib.Core.Logic.{inl, inr, ⊎-elim}
 use mathlib.Core.Bool.{Bool, true, false, cond, true≢false, false≢true}
 use mathlib.Core.List.{List, [], _∷_, _++_}
 use Prim.Native.Nat.{ℕ}
@@ -16,7 +16,7 @@ use Rattle.layout.specs.Layout.{Layout}
 use Rattle.layout.specs.Reading.{Settled, fits, broken, deep, settled}
 use Rattle.model.specs.Verdicts.{granted, slipped, isDone, row-state, row-order, row-number, row-form, row-deep}
 use Rattle.model.specs.State.{MemoryOf, lengthsFit}
-use Rattle.model.specs.Events.{Test, need, OutcomeOf, unless, firstFailing, verdictOf, outcome}
+use Rattle.model.specs.Events.{Test, need, unless, firstFailing, verdictOf, outcome}
 use Rattle.model.specs.Spread.{spread}
 use Rattle.model.specs.Monitor.{refusal, refusedUnless, start, started, perform}
 use Rattle.model.specs.TableLaws.{refusals, by-call, fitted-fits, refused-keeps}
