@@ -3,18 +3,50 @@
 use mathlib.Core.Path.{_≡_, refl, sym, ap, _∙_}
 use mathlib.Core.Bool.{Bool, true, false, cond}
 use mathlib.Core.List.{List, [], _∷_, _++_, append-assoc}
-use Prim.Native.Nat.{ℕ, zero, suc, _+_, _≤_, _<_}
+use Prim.Native.Nat.{ℕ, zero, suc, _+_, _-_, _≤_, _<_}
+use native.Mathlib.Numerals.{add-one}
 use native.Mathlib.Omega.{arith}
 use lib.Dec.{ltb, eqb}
-use lib.ListN.{length}
+use lib.ListN.{length, getD, set}
+use lib.Seq.{getD-set-same, getD-set-other}
 use borrow.Author.Tests.{eqb-false, ne-eqb, lt-ltb}
 use Rattle.layout.specs.Layout.{Object, Task, Objects, none, object, Form, root, task, Layout, depthOf, formDepth, depth, mostDeep, ObjectFits, TaskFits, ObjectsFit, FormFits, Fits, lineFeed, opening, closing, objectWord, taskWord, fieldText, headText, innerText, objectText, taskText, formText, written}
 use Rattle.layout.specs.Reading.{Reading, found, lost, isDigit, head, taskAt}
 use Rattle.layout.specs.Answers.{standsAt}
 use Rattle.layout.specs.NumberLaws.{starts, head-written, head-read, head-longer, task-written, task-read, task-longer}
 use Rattle.model.specs.declared.Call.{Call}
+use Rattle.model.specs.declared.Call.the-variants.{CreateRoot}
 use Rattle.model.specs.Load.{innerCalls, formCalls, layoutCalls}
-use Rattle.loading.specs.Calls.{Holder, objectCalls, taskCalls, closed, tasked, held, callsBy, callsFrom, callsIn}
+use Rattle.loading.specs.Calls.{Holder, holders, objectCalls, taskCalls, closed, tasked, held, callsBy, callsFrom, callsIn}
+
+-- ---- the open objects
+
+-- a number past the open ones changes none of them
+holders-kept : (ns ds : List ℕ) (n d i k : ℕ) → k ≤ i → holders (set ns i n) (set ds i d) k ≡ holders ns ds k
+unfolding holders
+holders-kept ns ds n d i zero h = refl
+holders-kept ns ds n d i (suc k) h =
+    rw (getD-set-other ns i k n 0 (λ e. omega arith), getD-set-other ds i k d 0 (λ e. omega arith), holders-kept ns ds n d i k (omega arith))
+
+pub holders-push : (ns ds : List ℕ) (n d k : ℕ) → k < length ns → k < length ds → holders (set ns k n) (set ds k d) (k + 1) ≡ record { number = n; driver = d } ∷ holders ns ds k
+unfolding holders
+holders-push ns ds n d k p q = rw add-one (rw (getD-set-same ns k n 0 p, getD-set-same ds k d 0 q, holders-kept ns ds n d k k (omega arith)))
+
+pub holders-length : (ns ds : List ℕ) (k : ℕ) → length (holders ns ds k) ≡ k
+unfolding holders
+holders-length ns ds zero = refl
+holders-length ns ds (suc k) = ap suc (holders-length ns ds k)
+
+-- an object's own calls name the innermost one, if one is open
+pub object-root : (ns ds : List ℕ) (k : ℕ) (h : Object) → k ≡ 0 → objectCalls (holders ns ds k) h ≡ CreateRoot 0 (h .driver) (h .number) (h .level) ∷ []
+unfolding holders objectCalls
+object-root ns ds k h e = rw e
+
+pub object-within : (ns ds : List ℕ) (k : ℕ) (h : Object) → (k ≡ 0 → ⊥)
+    → objectCalls (holders ns ds k) h ≡ objectCalls (record { number = getD ns (k - 1) 0; driver = getD ds (k - 1) 0 } ∷ []) h
+unfolding holders objectCalls
+object-within ns ds zero h n = absurd (n refl)
+object-within ns ds (suc k) h n = let e : suc k - 1 ≡ k = omega arith in rw e
 
 -- ---- what is read is shorter
 

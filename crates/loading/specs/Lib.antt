@@ -1,2 +1,4 @@
 pub mod Calls
 pub mod CallsLaws
+pub mod TurnLaws
+pub mod Turns
