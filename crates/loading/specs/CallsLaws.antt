@@ -9,17 +9,23 @@ use native.Mathlib.Omega.{arith}
 use lib.Dec.{ltb, eqb}
 use lib.ListN.{length, getD, set}
 use lib.Seq.{getD-set-same, getD-set-other}
-use borrow.Author.Tests.{eqb-false, ne-eqb, lt-ltb}
+use borrow.Author.Tests.{eqb-false, ne-eqb, lt-ltb, le-ltb}
 use Rattle.layout.specs.Layout.{Object, Task, Objects, none, object, Form, root, task, Layout, depthOf, formDepth, depth, mostDeep, ObjectFits, TaskFits, ObjectsFit, FormFits, Fits, lineFeed, opening, closing, objectWord, taskWord, fieldText, headText, innerText, objectText, taskText, formText, written}
-use Rattle.layout.specs.Reading.{Reading, found, lost, isDigit, head, taskAt}
+use Rattle.layout.specs.Reading.{Reading, found, lost, head, taskAt}
 use Rattle.layout.specs.Answers.{standsAt}
-use Rattle.layout.specs.NumberLaws.{starts, head-written, head-read, head-longer, task-written, task-read, task-longer}
+use Rattle.layout.specs.NumberLaws.{head-written, head-read, head-longer, task-written, task-read, task-longer}
+use Rattle.layout.specs.ReadingLaws.{inner-starts}
 use Rattle.model.specs.declared.Call.{Call}
 use Rattle.model.specs.declared.Call.the-variants.{CreateRoot}
 use Rattle.model.specs.Load.{innerCalls, formCalls, layoutCalls}
 use Rattle.loading.specs.Calls.{Holder, holders, objectCalls, taskCalls, closed, tasked, held, callsBy, callsFrom, callsIn}
 
 -- ---- the open objects
+
+pub holders-top : (ns ds : List ℕ) (k : ℕ) → (k ≡ 0 → ⊥) → holders ns ds k ≡ record { number = getD ns (k - 1) 0; driver = getD ds (k - 1) 0 } ∷ holders ns ds (k - 1)
+unfolding holders
+holders-top ns ds zero n = absurd (n refl)
+holders-top ns ds (suc k) n = let e : suc k - 1 ≡ k = omega arith in rw e
 
 -- a number past the open ones changes none of them
 holders-kept : (ns ds : List ℕ) (n d i k : ℕ) → k ≤ i → holders (set ns i n) (set ds i d) k ≡ holders ns ds k
@@ -44,9 +50,8 @@ object-root ns ds k h e = rw e
 
 pub object-within : (ns ds : List ℕ) (k : ℕ) (h : Object) → (k ≡ 0 → ⊥)
     → objectCalls (holders ns ds k) h ≡ objectCalls (record { number = getD ns (k - 1) 0; driver = getD ds (k - 1) 0 } ∷ []) h
-unfolding holders objectCalls
-object-within ns ds zero h n = absurd (n refl)
-object-within ns ds (suc k) h n = let e : suc k - 1 ≡ k = omega arith in rw e
+unfolding objectCalls
+object-within ns ds k h n = rw (holders-top ns ds k n)
 
 -- ---- what is read is shorter
 
@@ -123,12 +128,29 @@ at-object s b t h u n w e d =
     let r : List Holder = record { number = h .number; driver = h .driver } ∷ s in
     rw (ne-eqb b closing (n .0), ne-eqb b lineFeed (n .1), w, e, lt-ltb (length s) mostDeep d, enough (length t) (length u) r u (omega arith) (omega arith))
 
--- ---- the calls of a layout's text
+-- what is no form, and an object past the eighth level
+pub at-no-task : (s : List Holder) (b : ℕ) (t u : List ℕ) → Begins b → standsAt 116 t ≡ true → taskAt (b ∷ t) ≡ lost u → callsFrom s (b ∷ t) ≡ []
+unfolding callsBy tasked
+at-no-task s b t u n w e = rw (ne-eqb b closing (n .0), ne-eqb b lineFeed (n .1), w, e)
 
-inner-starts : (fs : Objects) (u : List ℕ) → starts (innerText fs (closing ∷ u)) ≡ false
-unfolding starts innerText isDigit
-inner-starts none u = refl
-inner-starts (object h inner next) u = refl
+pub at-no-object : (s : List Holder) (b : ℕ) (t u : List ℕ) → Begins b → standsAt 116 t ≡ false → head (b ∷ t) ≡ lost u → callsFrom s (b ∷ t) ≡ []
+unfolding callsBy held
+at-no-object s b t u n w e = rw (ne-eqb b closing (n .0), ne-eqb b lineFeed (n .1), w, e)
+
+pub at-no-level : (s : List Holder) (b : ℕ) (t : List ℕ) → Begins b → standsAt 116 t ≡ false → mostDeep ≤ length s → callsFrom s (b ∷ t) ≡ []
+unfolding callsBy
+at-no-level s b t n w d = rw (ne-eqb b closing (n .0), ne-eqb b lineFeed (n .1), w) (none-held (head (b ∷ t)))
+  where
+    none-held : (r : Reading Object) → held s r (callsBy (length t)) ≡ []
+    none-held (found h u) = unfold held in rw (le-ltb (length s) mostDeep d)
+    none-held (lost u) = unfold held in refl
+
+-- a bracket that closes no object
+pub at-no-holder : (t : List ℕ) → callsFrom [] (closing ∷ t) ≡ []
+unfolding callsBy closed
+at-no-holder t = refl
+
+-- ---- the calls of a layout's text
 
 opens : Begins opening
 opens = (eqb-false _ _ refl, eqb-false _ _ refl)

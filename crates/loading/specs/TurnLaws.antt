@@ -57,12 +57,17 @@ call-last o m c e honest r is = rw (← is) (go (isDone (verdictOf e)) refl)
 
 -- ---- calls, and those after them
 
-module _ (o : Order) (m : Memory) (cs ds : List Call) {v : ℕ} {bs ws : List ℕ} (is : left v 0 bs ws ≡ inTurn o cs m) where
-  pub turn-stops : slipped < v → left v 0 bs ws ≡ inTurn o (cs ++ ds) m
-  turn-stops l = rw (turn-append o cs ds m, ← is, lt-leb v slipped l)
+module _ (o : Order) (m : Memory) (all cs ds : List Call) (are : all ≡ cs ++ ds) {v : ℕ} {bs ws : List ℕ} (is : left v 0 bs ws ≡ inTurn o cs m) where
+  pub turn-stops : slipped < v → left v 0 bs ws ≡ inTurn o all m
+  turn-stops l = rw (are, turn-append o cs ds m, ← is, lt-leb v slipped l)
 
-  pub turn-goes : v ≤ slipped → inTurn o ds (memory bs ws) ≡ inTurn o (cs ++ ds) m
-  turn-goes l = rw (turn-append o cs ds m, ← is, le-leb v slipped l)
+  pub turn-goes : v ≤ slipped → inTurn o ds (memory bs ws) ≡ inTurn o all m
+  turn-goes l = rw (are, turn-append o cs ds m, ← is, le-leb v slipped l)
 
   pub turn-ready : Ready o (m .bytes) (m .words) → Ready o bs ws
   turn-ready r = sound-ready o (memory bs ws) (r .2) (subst (λ (out : Outcome). Sound o (out .memory)) (sym is) (turn-sound o cs m (ready-sound o m r)))
+
+-- no more calls
+pub turn-none : (o : Order) (bs ws : List ℕ) (all : List Call) → all ≡ [] → left granted 0 bs ws ≡ inTurn o all (memory bs ws)
+unfolding inTurn
+turn-none o bs ws all e = rw e

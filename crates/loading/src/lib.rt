@@ -9,7 +9,7 @@ ghost use Rattle.model.specs.Ready.{Ready};
 ghost use Rattle.model.specs.Events.{left};
 ghost use Rattle.model.specs.Load.{inTurn};
 ghost use Rattle.loading.specs.Calls.{Holder, holders, objectCalls, callsFrom, callsIn};
-ghost use Rattle.loading.specs.Turns.{TaskAt, ObjectAt, turned, Further};
+ghost use Rattle.loading.specs.Forms.{TaskAt, ObjectAt, turned, Further};
 use layout::MOST_LEVELS;
 use layout::fields::Heading;
 use layout::fields::Running;
@@ -99,74 +99,3 @@ fn task(bytes: &mut [u8], words: &mut [u64], order: Order, text: &[u8], at: usiz
     Turn::GoesOn { end }
 }
 
-// An object, which is open then.
-fn object(
-    bytes: &mut [u8],
-    words: &mut [u64],
-    order: Order,
-    text: &[u8],
-    at: usize,
-    numbers: &mut [u16; MOST_LEVELS],
-    drivers: &mut [u16; MOST_LEVELS],
-    depth: usize,
-) -> Turn
-    requires { ⌜ Ready order (now bytes) (now words) × ObjectAt (now text) at × (depth ≤ mostDeep) ⌝ }
-    ensures { λ r. ⌜ Further order (now (text .entry)) at r (now (bytes .exit)) (now (words .exit)) ⌝ }
-    ensures { λ r. ⌜ turned order (λ e. callsFrom (holders (now (numbers .exit)) (now (drivers .exit)) (depth + 1)) (drop e (now (text .entry)))) r (memory (now (bytes .exit)) (now (words .exit))) ≡ inTurn order (callsFrom (holders (now (numbers .entry)) (now (drivers .entry)) depth) (drop at (now (text .entry)))) (memory (now (bytes .entry)) (now (words .entry))) ⌝ }
-{
-    if depth >= MOST_LEVELS {
-        return Turn::Ends { verdict: GRANTED };
-    }
-    let Heading::Holds { number, driver, level, end } = head_at(text, at) else {
-        return Turn::Ends { verdict: GRANTED };
-    };
-    let verdict = create(bytes, words, order, numbers, drivers, depth, number, driver, level);
-    if verdict > SLIPPED {
-        return Turn::Ends { verdict };
-    }
-    numbers[depth] = number;
-    drivers[depth] = driver;
-    Turn::GoesOn { end }
-}
-
-// The whole text, form after form.
-pub fn lay_out(bytes: &mut [u8], words: &mut [u64], order: Order, text: &[u8]) -> u8
-    requires { ⌜ Ready order (now bytes) (now words) ⌝ }
-    ensures { λ r. ⌜ left r 0 (now (bytes .exit)) (now (words .exit)) ≡ inTurn order (callsIn (now (text .entry))) (memory (now (bytes .entry)) (now (words .entry))) ⌝ }
-{
-    let mut numbers = [0u16; MOST_LEVELS];
-    let mut drivers = [0u16; MOST_LEVELS];
-    let mut depth: usize = 0;
-    let mut at: usize = 0;
-    while at < text.len() {
-        if text[at] == b')' {
-            if depth == 0 {
-                return GRANTED;
-            }
-            depth -= 1;
-            at += 1;
-        } else if text[at] == b'\n' {
-            at += 1;
-        } else if is_at(text, at + 1, b't') {
-            match task(bytes, words, order, text, at) {
-                Turn::Ends { verdict } => {
-                    return verdict;
-                }
-                Turn::GoesOn { end } => {
-                    at = end;
-                }
-            }
-        } else {
-            match object(bytes, words, order, text, at, &mut numbers, &mut drivers, depth) {
-                Turn::Ends { verdict } => {
-                    return verdict;
-                }
-                Turn::GoesOn { end } => {
-                    depth += 1;
-                    at = end;
-                }
-            }
-        }
-    }
-    GRANTED
-}
