@@ -2,7 +2,7 @@
 ghost use mathlib.Core.Path.{_≡_};
 ghost use mathlib.Core.List.{List, [], _∷_};
 ghost use Prim.Native.Nat.{_+_, _≤_};
-ghost use lib.ListN.{drop};
+ghost use lib.ListN.{length, drop};
 ghost use Rattle.layout.specs.Layout.{mostDeep};
 ghost use Rattle.model.specs.State.{memory};
 ghost use Rattle.model.specs.Ready.{Ready};
@@ -50,14 +50,14 @@ fn create(
     bytes: &mut [u8],
     words: &mut [u64],
     order: Order,
-    numbers: &[u16; MOST_LEVELS],
-    drivers: &[u16; MOST_LEVELS],
+    numbers: &[u16],
+    drivers: &[u16],
     depth: usize,
     number: u16,
     driver: u16,
     level: u16,
 ) -> u8
-    requires { ⌜ Ready order (now bytes) (now words) × (depth ≤ mostDeep) ⌝ }
+    requires { ⌜ Ready order (now bytes) (now words) × (depth ≤ length (now numbers)) × (depth ≤ length (now drivers)) ⌝ }
     ensures { λ r. ⌜ left r 0 (now (bytes .exit)) (now (words .exit)) ≡ inTurn order (objectCalls (holders (now (numbers .entry)) (now (drivers .entry)) depth) (record { number = number; driver = driver; level = level })) (memory (now (bytes .entry)) (now (words .entry))) ⌝ }
 {
     if depth == 0 {
@@ -96,6 +96,36 @@ fn task(bytes: &mut [u8], words: &mut [u64], order: Order, text: &[u8], at: usiz
     if verdict > SLIPPED {
         return Turn::Ends { verdict };
     }
+    Turn::GoesOn { end }
+}
+
+// An object, which is open then.
+fn object(
+    bytes: &mut [u8],
+    words: &mut [u64],
+    order: Order,
+    text: &[u8],
+    at: usize,
+    numbers: &mut [u16],
+    drivers: &mut [u16],
+    depth: usize,
+) -> Turn
+    requires { ⌜ Ready order (now bytes) (now words) × ObjectAt (now text) at × (length (now numbers) ≡ mostDeep) × (length (now drivers) ≡ mostDeep) ⌝ }
+    ensures { λ r. ⌜ Further order (now (text .entry)) at r (now (bytes .exit)) (now (words .exit)) ⌝ }
+    ensures { λ r. ⌜ turned order (λ e. callsFrom (holders (now (numbers .exit)) (now (drivers .exit)) (depth + 1)) (drop e (now (text .entry)))) r (memory (now (bytes .exit)) (now (words .exit))) ≡ inTurn order (callsFrom (holders (now (numbers .entry)) (now (drivers .entry)) depth) (drop at (now (text .entry)))) (memory (now (bytes .entry)) (now (words .entry))) ⌝ }
+{
+    if depth >= MOST_LEVELS {
+        return Turn::Ends { verdict: GRANTED };
+    }
+    let Heading::Holds { number, driver, level, end } = head_at(text, at) else {
+        return Turn::Ends { verdict: GRANTED };
+    };
+    let verdict = create(bytes, words, order, numbers, drivers, depth, number, driver, level);
+    if verdict > SLIPPED {
+        return Turn::Ends { verdict };
+    }
+    numbers[depth] = number;
+    drivers[depth] = driver;
     Turn::GoesOn { end }
 }
 

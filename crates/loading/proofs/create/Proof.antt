@@ -16,7 +16,7 @@ unfolding createRoot
 returns c =
     let k = c .before .before .before .before in
     let e = k .before .before .before in
-    let s = e .before .before .before in
+    let s : tie.Start = search in
     let a = s .args in
     let m = memory (a .bytes .now) (a .words .now) in
     let call = CreateRoot 0 (a .driver) (a .number) (a .level) in
@@ -26,8 +26,8 @@ returns c =
 returns-2 : tie.Need-returns-2
 returns-2 c =
     let k = c .before .before .before .before in
-    let e = k .before .before .before .before .before in
-    let s = e .before .before .before in
+    let e : tie.Else1 = search in
+    let s : tie.Start = search in
     let a = s .args in
     k .create-in .ensures ∙ ap (λ (cs : List Call). inTurn (a .order) cs (memory (a .bytes .now) (a .words .now))) (sym (object-within (a .numbers .now) (a .drivers .now) (a .depth) _ (e .if1 .left)))
 
