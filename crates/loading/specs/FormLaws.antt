@@ -16,11 +16,15 @@ use Rattle.layout.specs.declared.fields.Heading.the-variants.{Holds, Headless}
 use Rattle.layout.specs.declared.fields.Running.{Running}
 use Rattle.layout.specs.declared.fields.Running.the-variants.{Runs, Idle}
 use Rattle.model.specs.declared.Call.{Call}
+use Rattle.model.specs.State.{Memory}
 use Rattle.model.specs.Ready.{Ready}
+use Rattle.model.specs.Events.{Outcome}
+use Rattle.model.specs.Load.{inTurn}
 use Rattle.loading.specs.Calls.{Holder, holders, objectCalls, taskCalls, callsFrom}
 use Rattle.loading.specs.CallsLaws.{holders-top, holders-push, holders-length, at-end, at-closing, at-line, at-task, at-object, at-no-task, at-no-object, at-no-level, at-no-holder}
-use Rattle.loading.specs.Forms.{FormAt, TaskAt, ObjectAt, Further}
-use Rattle.loading.specs.declared.Turn.the-variants.{GoesOn}
+use Rattle.loading.specs.Forms.{TaskAt, ObjectAt, turned, Further}
+use Rattle.loading.specs.declared.Turn.{Turn}
+use Rattle.loading.specs.declared.Turn.the-variants.{GoesOn, Ends}
 
 -- ---- the reader's answers
 
@@ -95,3 +99,17 @@ module _ (ns ds : List ℕ) (k : ℕ) (t : List ℕ) (at : ℕ) where
 
   pub end : length t ≤ at → callsFrom s (drop at t) ≡ []
   end l = rw (drop-of-length-le t {i = at} l) (at-end s)
+
+-- ---- what a form came to
+
+pub ends-with : (o : Order) (calls : ℕ → List Call) (r : Turn) (v : ℕ) (m : Memory) {out : Outcome} → r ≡ Ends v → turned o calls r m ≡ out → record { verdict = v; rounds = 0; memory = m } ≡ out
+unfolding turned
+ends-with o calls r v m e q = rw e at q
+
+pub goes-with : (o : Order) (calls : ℕ → List Call) (r : Turn) (e : ℕ) (m : Memory) {out : Outcome} → r ≡ GoesOn e → turned o calls r m ≡ out → inTurn o (calls e) m ≡ out
+unfolding turned
+goes-with o calls r e m p q = rw p at q
+
+pub goes-further : (o : Order) (t : List ℕ) (at e : ℕ) (r : Turn) (bs ws : List ℕ) → r ≡ GoesOn e → Further o t at r bs ws → (at < e) × (e ≤ length t) × Ready o bs ws
+unfolding Further
+goes-further o t at e r bs ws p q = rw p at q

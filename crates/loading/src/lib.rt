@@ -89,7 +89,14 @@ fn task(bytes: &mut [u8], words: &mut [u64], order: Order, text: &[u8], at: usiz
     ensures { λ r. ⌜ Further order (now (text .entry)) at r (now (bytes .exit)) (now (words .exit)) ⌝ }
     ensures { λ r. ⌜ ((s : List Holder) → turned order (λ e. callsFrom s (drop e (now (text .entry)))) r (memory (now (bytes .exit)) (now (words .exit))) ≡ inTurn order (callsFrom s (drop at (now (text .entry)))) (memory (now (bytes .entry)) (now (words .entry)))) ⌝ }
 {
-    let Running::Runs { number, image, level, reads, end } = task_at(text, at) else {
+    let Running::Runs {
+        number,
+        image,
+        level,
+        reads,
+        end,
+    } = task_at(text, at)
+    else {
         return Turn::Ends { verdict: GRANTED };
     };
     let verdict = creation::execute(bytes, words, order, 0, image, number, level, reads);
@@ -117,10 +124,26 @@ fn object(
     if depth >= MOST_LEVELS {
         return Turn::Ends { verdict: GRANTED };
     }
-    let Heading::Holds { number, driver, level, end } = head_at(text, at) else {
+    let Heading::Holds {
+        number,
+        driver,
+        level,
+        end,
+    } = head_at(text, at)
+    else {
         return Turn::Ends { verdict: GRANTED };
     };
-    let verdict = create(bytes, words, order, numbers, drivers, depth, number, driver, level);
+    let verdict = create(
+        bytes,
+        words,
+        order,
+        numbers,
+        drivers,
+        depth,
+        number,
+        driver,
+        level,
+    );
     if verdict > SLIPPED {
         return Turn::Ends { verdict };
     }
@@ -129,3 +152,53 @@ fn object(
     Turn::GoesOn { end }
 }
 
+// The whole text, form after form.
+pub fn lay_out(bytes: &mut [u8], words: &mut [u64], order: Order, text: &[u8]) -> u8
+    requires { ⌜ Ready order (now bytes) (now words) ⌝ }
+    ensures { λ r. ⌜ left r 0 (now (bytes .exit)) (now (words .exit)) ≡ inTurn order (callsIn (now (text .entry))) (memory (now (bytes .entry)) (now (words .entry))) ⌝ }
+{
+    let mut numbers = [0u16; MOST_LEVELS];
+    let mut drivers = [0u16; MOST_LEVELS];
+    let mut depth: usize = 0;
+    let mut at: usize = 0;
+    while at < text.len() {
+        if text[at] == b')' {
+            if depth == 0 {
+                return GRANTED;
+            }
+            depth -= 1;
+            at += 1;
+        } else if text[at] == b'\n' {
+            at += 1;
+        } else if is_at(text, at + 1, b't') {
+            match task(bytes, words, order, text, at) {
+                Turn::Ends { verdict } => {
+                    return verdict;
+                }
+                Turn::GoesOn { end } => {
+                    at = end;
+                }
+            }
+        } else {
+            match object(
+                bytes,
+                words,
+                order,
+                text,
+                at,
+                &mut numbers,
+                &mut drivers,
+                depth,
+            ) {
+                Turn::Ends { verdict } => {
+                    return verdict;
+                }
+                Turn::GoesOn { end } => {
+                    depth += 1;
+                    at = end;
+                }
+            }
+        }
+    }
+    GRANTED
+}

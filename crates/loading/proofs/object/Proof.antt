@@ -74,9 +74,10 @@ returns-3 c =
 returns-4 : tie.Need-returns-4
 unfolding turned
 returns-4 c =
-    let k = c .before .before .before .before .before in
-    (further (start k .args .order) (text k) (start k .args .at) (end k) _ _ (head-got (text k) (start k .args .at) _ _ _ _ (told k)) (turn-ready (start k .args .order) _ _ _ _ (calls k) (k .create .ensures) (start k .pre .0)),
-    turn-goes (start k .args .order) _ _ _ _ (calls k) (k .create .ensures) (c .if2 .left))
+    let k = c .before .before .before .before .before in (
+      further (start k .args .order) (text k) (start k .args .at) (end k) _ _ (head-got (text k) (start k .args .at) _ _ _ _ (told k)) (turn-ready (start k .args .order) _ _ _ _ (calls k) (k .create .ensures) (start k .pre .0)),
+      turn-goes (start k .args .order) _ _ _ _ (calls k) (k .create .ensures) (c .if2 .left),
+    )
 
 pub object-spec : {M : Type 1} → statement M
 object-spec =

@@ -70,9 +70,10 @@ returns-2 c =
 returns-3 : tie.Need-returns-3
 unfolding turned
 returns-3 c =
-    let k = c .before .before .before .before .before in
-    (further (start k .args .order) (text k) (start k .args .at) (end k) _ _ (task-got (text k) (start k .args .at) _ _ _ _ _ (told k)) (turn-ready (start k .args .order) _ _ _ _ (calls k []) (ran k) (start k .pre .0)),
-    λ s. turn-goes (start k .args .order) _ _ _ _ (calls k s) (ran k) (c .if1 .left))
+    let k = c .before .before .before .before .before in (
+      further (start k .args .order) (text k) (start k .args .at) (end k) _ _ (task-got (text k) (start k .args .at) _ _ _ _ _ (told k)) (turn-ready (start k .args .order) _ _ _ _ (calls k []) (ran k) (start k .pre .0)),
+      λ s. turn-goes (start k .args .order) _ _ _ _ (calls k s) (ran k) (c .if1 .left),
+    )
 
 pub task-spec : {M : Type 1} → statement M
 task-spec =
