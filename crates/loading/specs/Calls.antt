@@ -2,7 +2,7 @@
 -- Assumes nothing.
 use mathlib.Core.Bool.{cond}
 use mathlib.Core.List.{List, [], _∷_, _++_}
-use Prim.Native.Nat.{ℕ, zero, suc}
+use Prim.Native.Nat.{ℕ, zero, suc, _+_, _*_}
 use lib.Dec.{ltb, eqb}
 use lib.ListN.{length, getD}
 use Rattle.layout.specs.Layout.{Object, Task, mostDeep, lineFeed, closing}
@@ -16,10 +16,10 @@ pub record Holder : Type 0 where
   pub number : ℕ
   pub driver : ℕ
 
--- the first k of the numbers and the drivers, the last one first
-unfoldable pub holders : List ℕ → List ℕ → ℕ → List Holder
-holders ns ds zero = []
-holders ns ds (suc k) = record { number = getD ns k 0; driver = getD ds k 0 } ∷ holders ns ds k
+-- the first k pairs of a number and a driver, the last one first
+unfoldable pub holders : List ℕ → ℕ → List Holder
+holders hs zero = []
+holders hs (suc k) = record { number = getD hs (2 * k) 0; driver = getD hs (2 * k + 1) 0 } ∷ holders hs k
 
 -- an object's own calls: in the innermost open object, or a root where none is open
 unfoldable pub objectCalls : List Holder → Object → List Call

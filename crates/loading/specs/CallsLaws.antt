@@ -3,11 +3,11 @@
 use mathlib.Core.Path.{_≡_, refl, sym, ap, _∙_}
 use mathlib.Core.Bool.{Bool, true, false, cond}
 use mathlib.Core.List.{List, [], _∷_, _++_, append-assoc}
-use Prim.Native.Nat.{ℕ, zero, suc, _+_, _-_, _≤_, _<_}
+use Prim.Native.Nat.{ℕ, zero, suc, _+_, _-_, _*_, _≤_, _<_}
 use native.Mathlib.Numerals.{add-one}
 use native.Mathlib.Omega.{arith}
 use lib.Dec.{ltb, eqb}
-use lib.ListN.{length, getD, set}
+use lib.ListN.{length, getD, set, length-set}
 use lib.Seq.{getD-set-same, getD-set-other}
 use borrow.Author.Tests.{eqb-false, ne-eqb, lt-ltb, le-ltb}
 use Rattle.layout.specs.Layout.{Object, Task, Objects, none, object, Form, root, task, Layout, depthOf, formDepth, depth, mostDeep, ObjectFits, TaskFits, ObjectsFit, FormFits, Fits, lineFeed, opening, closing, objectWord, taskWord, fieldText, headText, innerText, objectText, taskText, formText, written}
@@ -22,36 +22,43 @@ use Rattle.loading.specs.Calls.{Holder, holders, objectCalls, taskCalls,
 
 -- ---- the open objects
 
-pub holders-top : (ns ds : List ℕ) (k : ℕ) → (k ≡ 0 → ⊥) → holders ns ds k ≡ record { number = getD ns (k - 1) 0; driver = getD ds (k - 1) 0 } ∷ holders ns ds (k - 1)
+pub holders-top : (hs : List ℕ) (k : ℕ) → (k ≡ 0 → ⊥) → holders hs k ≡ record { number = getD hs (2 * k - 2) 0; driver = getD hs (2 * k - 1) 0 } ∷ holders hs (k - 1)
 unfolding holders
-holders-top ns ds zero n = absurd (n refl)
-holders-top ns ds (suc k) n = let e : suc k - 1 ≡ k = omega arith in rw e
+holders-top hs zero n = absurd (n refl)
+holders-top hs (suc k) n =
+    let e : suc k - 1 ≡ k = omega arith in
+    let f : 2 * suc k - 2 ≡ 2 * k = omega arith in
+    let g : 2 * suc k - 1 ≡ 2 * k + 1 = omega arith in
+    rw (e, f, g)
 
--- a number past the open ones changes none of them
-holders-kept : (ns ds : List ℕ) (n d i k : ℕ) → k ≤ i → holders (set ns i n) (set ds i d) k ≡ holders ns ds k
+-- a pair past the open ones changes none of them
+holders-kept : (hs : List ℕ) (i a k : ℕ) → 2 * k ≤ i → holders (set hs i a) k ≡ holders hs k
 unfolding holders
-holders-kept ns ds n d i zero h = refl
-holders-kept ns ds n d i (suc k) h =
-    rw (getD-set-other ns i k n 0 (λ e. omega arith), getD-set-other ds i k d 0 (λ e. omega arith), holders-kept ns ds n d i k (omega arith))
+holders-kept hs i a zero h = refl
+holders-kept hs i a (suc k) h =
+    rw (getD-set-other hs i (2 * k) a 0 (λ e. omega arith), getD-set-other hs i (2 * k + 1) a 0 (λ e. omega arith), holders-kept hs i a k (omega arith))
 
-pub holders-push : (ns ds : List ℕ) (n d k : ℕ) → k < length ns → k < length ds → holders (set ns k n) (set ds k d) (k + 1) ≡ record { number = n; driver = d } ∷ holders ns ds k
+pub holders-push : (hs : List ℕ) (n d k : ℕ) → 2 * k + 1 < length hs → holders (set (set hs (2 * k) n) (2 * k + 1) d) (k + 1) ≡ record { number = n; driver = d } ∷ holders hs k
 unfolding holders
-holders-push ns ds n d k p q = rw add-one (rw (getD-set-same ns k n 0 p, getD-set-same ds k d 0 q, holders-kept ns ds n d k k (omega arith)))
+holders-push hs n d k p =
+    let h = set hs (2 * k) n in
+    let number : getD (set h (2 * k + 1) d) (2 * k) 0 ≡ n = getD-set-other h (2 * k + 1) (2 * k) d 0 (λ e. omega arith) ∙ getD-set-same hs (2 * k) n 0 (omega arith) in
+    let driver : getD (set h (2 * k + 1) d) (2 * k + 1) 0 ≡ d = getD-set-same h (2 * k + 1) d 0 (simp length-set p) in
+    rw (add-one k) (rw (number, driver, holders-kept h (2 * k + 1) d k (omega arith), holders-kept hs (2 * k) n k (omega arith)))
 
-pub holders-length : (ns ds : List ℕ) (k : ℕ) → length (holders ns ds k) ≡ k
+pub holders-length : (hs : List ℕ) (k : ℕ) → length (holders hs k) ≡ k
 unfolding holders
-holders-length ns ds zero = refl
-holders-length ns ds (suc k) = ap suc (holders-length ns ds k)
+holders-length hs zero = refl
+holders-length hs (suc k) = ap suc (holders-length hs k)
 
 -- an object's own calls name the innermost one, if one is open
-pub object-root : (ns ds : List ℕ) (k : ℕ) (h : Object) → k ≡ 0 → objectCalls (holders ns ds k) h ≡ CreateRoot 0 (h .driver) (h .number) (h .level) ∷ []
+pub object-root : (hs : List ℕ) (k : ℕ) (h : Object) → k ≡ 0 → objectCalls (holders hs k) h ≡ CreateRoot 0 (h .driver) (h .number) (h .level) ∷ []
 unfolding holders objectCalls
-object-root ns ds k h e = rw e
+object-root hs k h e = rw e
 
-pub object-within : (ns ds : List ℕ) (k : ℕ) (h : Object) → (k ≡ 0 → ⊥)
-    → objectCalls (holders ns ds k) h ≡ objectCalls (record { number = getD ns (k - 1) 0; driver = getD ds (k - 1) 0 } ∷ []) h
+pub object-within : (hs : List ℕ) (k : ℕ) (h : Object) → (k ≡ 0 → ⊥) → objectCalls (holders hs k) h ≡ objectCalls (record { number = getD hs (2 * k - 2) 0; driver = getD hs (2 * k - 1) 0 } ∷ []) h
 unfolding objectCalls
-object-within ns ds k h n = rw (holders-top ns ds k n)
+object-within hs k h n = rw (holders-top hs k n)
 
 -- ---- what is read is shorter
 

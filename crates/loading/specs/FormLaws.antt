@@ -3,7 +3,7 @@
 use mathlib.Core.Path.{_≡_, refl, sym, ap, _∙_}
 use mathlib.Core.Bool.{true, false}
 use mathlib.Core.List.{List, [], _∷_, _++_}
-use Prim.Native.Nat.{ℕ, _+_, _-_, _≤_, _<_}
+use Prim.Native.Nat.{ℕ, _+_, _-_, _*_, _≤_, _<_}
 use native.Mathlib.Omega.{arith}
 use lib.ListN.{length, getD, drop, set, length-drop, drop-of-length-le}
 use Rattle.levels.specs.declared.Order.{Order}
@@ -62,33 +62,33 @@ module _ (s : List Holder) (t : List ℕ) (at : ℕ) (form : TaskAt t at) where
 
 -- ---- an object
 
-module _ (ns ds : List ℕ) (k : ℕ) (t : List ℕ) (at : ℕ) where
+module _ (hs : List ℕ) (k : ℕ) (t : List ℕ) (at : ℕ) where
   abbrev s : List Holder
-  s = holders ns ds k
+  s = holders hs k
 
   module _ (form : ObjectAt t at) where
     begins : drop at t ≡ getD t at 0 ∷ drop (at + 1) t
     begins = cons-at t at (form .0)
 
     pub no-level : mostDeep ≤ k → callsFrom s (drop at t) ≡ []
-    no-level d = rw begins (at-no-level s (getD t at 0) (drop (at + 1) t) (form .1, form .2) (form .3) (rw (holders-length ns ds k) d))
+    no-level d = rw begins (at-no-level s (getD t at 0) (drop (at + 1) t) (form .1, form .2) (form .3) (rw (holders-length hs k) d))
 
     pub no-object : (p : ℕ) → headAnswer (length t) (head (drop at t)) ≡ Headless p → callsFrom s (drop at t) ≡ []
     no-object p e =
         let l = headless-lost (length t) p _ (rw begins at e) in
         rw begins (at-no-object s (getD t at 0) (drop (at + 1) t) (l .0) (form .1, form .2) (form .3) (l .1))
 
-    pub object-calls : (n d l e : ℕ) → headAnswer (length t) (head (drop at t)) ≡ Holds n d l e → k < mostDeep → k < length ns → k < length ds
-        → callsFrom s (drop at t) ≡ objectCalls s (record { number = n; driver = d; level = l }) ++ callsFrom (holders (set ns k n) (set ds k d) (k + 1)) (drop e t)
-    object-calls n d l e q deep p r =
+    pub object-calls : (n d l e : ℕ) → headAnswer (length t) (head (drop at t)) ≡ Holds n d l e → k < mostDeep → 2 * k + 1 < length hs
+        → callsFrom s (drop at t) ≡ objectCalls s (record { number = n; driver = d; level = l }) ++ callsFrom (holders (set (set hs (2 * k) n) (2 * k + 1) d) (k + 1)) (drop e t)
+    object-calls n d l e q deep p =
         let g = head-got t at n d l e q in
-        rw (begins, holders-push ns ds n d k p r)
-        (at-object s (getD t at 0) (drop (at + 1) t) _ (drop e t) (form .1, form .2) (form .3) (rw begins at (g .0 .is)) (rw (holders-length ns ds k) deep))
+        rw (begins, holders-push hs n d k p)
+        (at-object s (getD t at 0) (drop (at + 1) t) _ (drop e t) (form .1, form .2) (form .3) (rw begins at (g .0 .is)) (rw (holders-length hs k) deep))
 
   -- ---- what stands between forms
 
-  pub closes : at < length t → getD t at 0 ≡ closing → (k ≡ 0 → ⊥) → callsFrom (holders ns ds (k - 1)) (drop (at + 1) t) ≡ callsFrom s (drop at t)
-  closes l b n = rw (cons-at t at l, b, holders-top ns ds k n) (sym (at-closing _ (holders ns ds (k - 1)) (drop (at + 1) t)))
+  pub closes : at < length t → getD t at 0 ≡ closing → (k ≡ 0 → ⊥) → callsFrom (holders hs (k - 1)) (drop (at + 1) t) ≡ callsFrom s (drop at t)
+  closes l b n = rw (cons-at t at l, b, holders-top hs k n) (sym (at-closing _ (holders hs (k - 1)) (drop (at + 1) t)))
 
   pub closes-none : at < length t → getD t at 0 ≡ closing → k ≡ 0 → callsFrom s (drop at t) ≡ []
   unfolding holders

@@ -1,7 +1,7 @@
 // The calls of a layout's text, made as they are come upon: a second reading, after the one that has settled form and depth.
 ghost use mathlib.Core.Path.{_≡_};
 ghost use mathlib.Core.List.{List, [], _∷_};
-ghost use Prim.Native.Nat.{_+_, _≤_};
+ghost use Prim.Native.Nat.{_+_, _*_, _≤_};
 ghost use lib.ListN.{length, drop};
 ghost use Rattle.layout.specs.Layout.{mostDeep};
 ghost use Rattle.model.specs.State.{memory};
@@ -50,21 +50,20 @@ fn create(
     bytes: &mut [u8],
     words: &mut [u64],
     order: Order,
-    numbers: &[u16],
-    drivers: &[u16],
+    held: &[u16],
     depth: usize,
     number: u16,
     driver: u16,
     level: u16,
 ) -> u8
-    requires { ⌜ Ready order (now bytes) (now words) × (depth ≤ length (now numbers)) × (depth ≤ length (now drivers)) ⌝ }
-    ensures { λ r. ⌜ left r 0 (now (bytes .exit)) (now (words .exit)) ≡ inTurn order (objectCalls (holders (now (numbers .entry)) (now (drivers .entry)) depth) (record { number = number; driver = driver; level = level })) (memory (now (bytes .entry)) (now (words .entry))) ⌝ }
+    requires { ⌜ Ready order (now bytes) (now words) × (2 * depth ≤ length (now held)) ⌝ }
+    ensures { λ r. ⌜ left r 0 (now (bytes .exit)) (now (words .exit)) ≡ inTurn order (objectCalls (holders (now (held .entry)) depth) (record { number = number; driver = driver; level = level })) (memory (now (bytes .entry)) (now (words .entry))) ⌝ }
 {
     if depth == 0 {
         return creation::create_root(bytes, words, order, 0, driver, number, level);
     }
-    let container = numbers[depth - 1];
-    let holder = drivers[depth - 1];
+    let container = held[2 * depth - 2];
+    let holder = held[2 * depth - 1];
     create_in(
         bytes,
         words,
@@ -113,13 +112,12 @@ fn object(
     order: Order,
     text: &[u8],
     at: usize,
-    numbers: &mut [u16],
-    drivers: &mut [u16],
+    held: &mut [u16],
     depth: usize,
 ) -> Turn
-    requires { ⌜ Ready order (now bytes) (now words) × ObjectAt (now text) at × (length (now numbers) ≡ mostDeep) × (length (now drivers) ≡ mostDeep) ⌝ }
+    requires { ⌜ Ready order (now bytes) (now words) × ObjectAt (now text) at × (length (now held) ≡ 2 * mostDeep) ⌝ }
     ensures { λ r. ⌜ Further order (now (text .entry)) at r (now (bytes .exit)) (now (words .exit)) ⌝ }
-    ensures { λ r. ⌜ turned order (λ e. callsFrom (holders (now (numbers .exit)) (now (drivers .exit)) (depth + 1)) (drop e (now (text .entry)))) r (memory (now (bytes .exit)) (now (words .exit))) ≡ inTurn order (callsFrom (holders (now (numbers .entry)) (now (drivers .entry)) depth) (drop at (now (text .entry)))) (memory (now (bytes .entry)) (now (words .entry))) ⌝ }
+    ensures { λ r. ⌜ turned order (λ e. callsFrom (holders (now (held .exit)) (depth + 1)) (drop e (now (text .entry)))) r (memory (now (bytes .exit)) (now (words .exit))) ≡ inTurn order (callsFrom (holders (now (held .entry)) depth) (drop at (now (text .entry)))) (memory (now (bytes .entry)) (now (words .entry))) ⌝ }
 {
     if depth >= MOST_LEVELS {
         return Turn::Ends { verdict: GRANTED };
@@ -133,22 +131,12 @@ fn object(
     else {
         return Turn::Ends { verdict: GRANTED };
     };
-    let verdict = create(
-        bytes,
-        words,
-        order,
-        numbers,
-        drivers,
-        depth,
-        number,
-        driver,
-        level,
-    );
+    let verdict = create(bytes, words, order, held, depth, number, driver, level);
     if verdict > SLIPPED {
         return Turn::Ends { verdict };
     }
-    numbers[depth] = number;
-    drivers[depth] = driver;
+    held[2 * depth] = number;
+    held[2 * depth + 1] = driver;
     Turn::GoesOn { end }
 }
 
@@ -157,8 +145,7 @@ pub fn lay_out(bytes: &mut [u8], words: &mut [u64], order: Order, text: &[u8]) -
     requires { ⌜ Ready order (now bytes) (now words) ⌝ }
     ensures { λ r. ⌜ left r 0 (now (bytes .exit)) (now (words .exit)) ≡ inTurn order (callsIn (now (text .entry))) (memory (now (bytes .entry)) (now (words .entry))) ⌝ }
 {
-    let mut numbers = [0u16; MOST_LEVELS];
-    let mut drivers = [0u16; MOST_LEVELS];
+    let mut held = [0u16; 2 * MOST_LEVELS];
     let mut depth: usize = 0;
     let mut at: usize = 0;
     while at < text.len() {
@@ -172,27 +159,12 @@ pub fn lay_out(bytes: &mut [u8], words: &mut [u64], order: Order, text: &[u8]) -
             at += 1;
         } else if is_at(text, at + 1, b't') {
             match task(bytes, words, order, text, at) {
-                Turn::Ends { verdict } => {
-                    return verdict;
-                }
-                Turn::GoesOn { end } => {
-                    at = end;
-                }
+                Turn::Ends { verdict } => return verdict,
+                Turn::GoesOn { end } => at = end,
             }
         } else {
-            match object(
-                bytes,
-                words,
-                order,
-                text,
-                at,
-                &mut numbers,
-                &mut drivers,
-                depth,
-            ) {
-                Turn::Ends { verdict } => {
-                    return verdict;
-                }
+            match object(bytes, words, order, text, at, &mut held, depth) {
+                Turn::Ends { verdict } => return verdict,
                 Turn::GoesOn { end } => {
                     depth += 1;
                     at = end;

@@ -21,7 +21,7 @@ returns c =
     let m = memory (a .bytes .now) (a .words .now) in
     let call = CreateRoot 0 (a .driver) (a .number) (a .level) in
     k .create-root .ensures ∙ call-last (a .order) m call (createRoot (a .order) m 0 (a .driver) (a .number) (a .level)) refl refl (as-call (a .order) m call (s .pre .0) refl refl)
-    ∙ ap (λ (cs : List Call). inTurn (a .order) cs m) (sym (object-root (a .numbers .now) (a .drivers .now) (a .depth) _ (e .if1 .taken)))
+    ∙ ap (λ (cs : List Call). inTurn (a .order) cs m) (sym (object-root (a .held .now) (a .depth) _ (e .if1 .taken)))
 
 returns-2 : tie.Need-returns-2
 returns-2 c =
@@ -29,7 +29,7 @@ returns-2 c =
     let e : tie.Else1 = search in
     let s : tie.Start = search in
     let a = s .args in
-    k .create-in .ensures ∙ ap (λ (cs : List Call). inTurn (a .order) cs (memory (a .bytes .now) (a .words .now))) (sym (object-within (a .numbers .now) (a .drivers .now) (a .depth) _ (e .if1 .left)))
+    k .create-in .ensures ∙ ap (λ (cs : List Call). inTurn (a .order) cs (memory (a .bytes .now) (a .words .now))) (sym (object-within (a .held .now) (a .depth) _ (e .if1 .left)))
 
 pub create-spec : {M : Type 1} → statement M
 create-spec =
@@ -39,6 +39,8 @@ create-spec =
     (λ c. search needs)
     (λ c. search needs)
     returns
+    (λ c. search needs)
+    (λ c. search needs)
     (λ c. search needs)
     (λ c. search needs)
     (λ c. search needs)

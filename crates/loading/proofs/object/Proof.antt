@@ -1,7 +1,8 @@
 use mathlib.Core.Path.{_≡_, refl, sym, _∙_}
 use mathlib.Core.List.{List, [], _++_}
-use Prim.Native.Nat.{ℕ, _+_}
-use lib.ListN.{length, drop, set}
+use Prim.Native.Nat.{ℕ, _+_, _*_}
+use native.Mathlib.Omega.{arith}
+use lib.ListN.{length, drop, set, length-set}
 use borrow.Author.Needs.{needs}
 use Rattle.layout.specs.Layout.{Object}
 use Rattle.layout.specs.Reading.{head}
@@ -21,49 +22,46 @@ use Rattle.loading.proofs.object.Tie as tie
 returns : tie.Need-returns
 unfolding Further turned
 returns c =
-    let s = c .before .before .before .before .before .before in
+    let s = c .before .before .before .before .before in
     let a = s .args in
-    (tt, turn-none (a .order) (a .bytes .now) (a .words .now) _ (no-level (a .numbers .now) (a .drivers .now) (a .depth) (a .text .now) (a .at) (s .pre .1) (c .if1 .taken)))
+    (tt, turn-none (a .order) (a .bytes .now) (a .words .now) _ (no-level (a .held .now) (a .depth) (a .text .now) (a .at) (s .pre .1) (c .if1 .taken)))
 
 returns-2 : tie.Need-returns-2
 unfolding Further turned
 returns-2 c =
     let k : tie.After-head-at = search in
-    let s = c .before .before .before .before .before .before .before .before .before in
+    let s = c .before .before .before .before .before .before .before .before in
     let a = s .args in
     let told = sym (k .head-at .ensures) ∙ c .enum-told .given .1 in
-    (tt, turn-none (a .order) (a .bytes .now) (a .words .now) _ (no-object (a .numbers .now) (a .drivers .now) (a .depth) (a .text .now) (a .at) (s .pre .1) _ told))
+    (tt, turn-none (a .order) (a .bytes .now) (a .words .now) _ (no-object (a .held .now) (a .depth) (a .text .now) (a .at) (s .pre .1) _ told))
 
 -- ---- an object that was read, and made
 
 abbrev start : tie.After-create → tie.Start
-start k = k .before .before .before .before .before .before .before .before .before .before .before .before .before .before .before
+start k = k .before .before .before .before .before .before .before .before .before .before .before .before .before
 
 abbrev text : tie.After-create → List ℕ
 text k = start k .args .text .now
 
-abbrev numbers : tie.After-create → List ℕ
-numbers k = start k .args .numbers .now
-
-abbrev drivers : tie.After-create → List ℕ
-drivers k = start k .args .drivers .now
+abbrev held : tie.After-create → List ℕ
+held k = start k .args .held .now
 
 abbrev read : tie.After-create → Object
-read k = let n = k .before .before .before .before .before .before .number .given .0 in record { number = n .0; driver = n .1 .0; level = n .1 .1 .0 }
+read k = let n = k .before .before .before .before .before .number .given .0 in record { number = n .0; driver = n .1 .0; level = n .1 .1 .0 }
 
 abbrev end : tie.After-create → ℕ
-end k = k .before .before .before .before .before .before .number .given .0 .1 .1 .1 .0
+end k = k .before .before .before .before .before .number .given .0 .1 .1 .1 .0
 
 told : (k : tie.After-create) → headAnswer (length (text k)) (head (drop (start k .args .at) (text k))) ≡ Holds (read k .number) (read k .driver) (read k .level) (end k)
 told k =
     let r : tie.After-head-at = search in
-    sym (r .head-at .ensures) ∙ k .before .before .before .before .before .before .number .given .1
+    sym (r .head-at .ensures) ∙ k .before .before .before .before .before .number .given .1
 
-calls : (k : tie.After-create) → callsFrom (holders (numbers k) (drivers k) (start k .args .depth)) (drop (start k .args .at) (text k))
-    ≡ objectCalls (holders (numbers k) (drivers k) (start k .args .depth)) (read k)
-    ++ callsFrom (holders (set (numbers k) (start k .args .depth) (read k .number)) (set (drivers k) (start k .args .depth) (read k .driver)) (start k .args .depth + 1)) (drop (end k) (text k))
+calls : (k : tie.After-create) → callsFrom (holders (held k) (start k .args .depth)) (drop (start k .args .at) (text k))
+    ≡ objectCalls (holders (held k) (start k .args .depth)) (read k)
+    ++ callsFrom (holders (set (set (held k) (2 * start k .args .depth) (read k .number)) (2 * start k .args .depth + 1) (read k .driver)) (start k .args .depth + 1)) (drop (end k) (text k))
 calls k =
-    object-calls (numbers k) (drivers k) (start k .args .depth) (text k) (start k .args .at) (start k .pre .1) _ _ _ _ (told k) (k .before .before .before .before .before .before .before .before .before .if1 .left) (search needs) (search needs)
+    object-calls (held k) (start k .args .depth) (text k) (start k .args .at) (start k .pre .1) _ _ _ _ (told k) (k .before .before .before .before .before .before .before .before .if1 .left) (search needs)
 
 returns-3 : tie.Need-returns-3
 unfolding Further turned
@@ -92,13 +90,14 @@ object-spec =
     (λ c. search needs)
     (λ c. search needs)
     (λ c. search needs)
-    (λ c. search needs)
     returns-3
     (λ c. search needs)
     (λ c. search needs)
     (λ c. search needs)
     (λ c. search needs)
     (λ c. search needs)
+    (λ c. search needs)
+    (λ c. simp length-set (omega arith))
     (λ c. search needs)
     (λ c. search needs)
     (λ c. search needs)
