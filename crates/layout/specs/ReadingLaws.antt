@@ -142,7 +142,7 @@ objects-stop t e = stops (suc (length t)) t e (omega arith)
 
 -- ---- the text is read
 
-inner-starts : (fs : Objects) (u : List ℕ) → starts (innerText fs (closing ∷ u)) ≡ false
+pub inner-starts : (fs : Objects) (u : List ℕ) → starts (innerText fs (closing ∷ u)) ≡ false
 unfolding starts isDigit innerText
 inner-starts none u = refl
 inner-starts (object h inner next) u = refl

@@ -17,4 +17,5 @@ pub mod TableLaws
 pub mod EffectLaws
 pub mod SoundLaws
 pub mod LoadLaws
+pub mod ReadyLaws
 pub mod RiskLaws
