@@ -75,28 +75,31 @@ static inline int read_form(struct reader *r, struct form *form)
     return form->task ? read_task(r, form) : read_object(r, form);
 }
 
+static struct tupehiwo_checked checked_at(size_t offset, uint8_t verdict)
+{
+    struct tupehiwo_checked checked = {(uint32_t)offset, verdict};
+    return checked;
+}
+
+/* The whole text is read for its form; where it is too deep is told if that is good. */
 static struct tupehiwo_checked check_layout(const uint8_t *text, size_t ntext)
 {
-    struct tupehiwo_checked checked = {TUPEHIWO_LAYOUT_BYTES, TUPEHIWO_FORM};
-    if (ntext > TUPEHIWO_LAYOUT_BYTES)
-        return checked;
     struct reader r = {text, text + ntext, 0};
     const uint8_t *ninth = NULL;
+    if (ntext > TUPEHIWO_LAYOUT_BYTES)
+        return checked_at(TUPEHIWO_LAYOUT_BYTES, TUPEHIWO_FORM);
     while (r.at < r.end) {
         const uint8_t *begin = r.at;
         struct form form;
         if (!read_form(&r, &form))
-            break;
+            return checked_at((size_t)(r.at - text), TUPEHIWO_FORM);
         if (form.depth == TUPEHIWO_LAYOUT_DEPTH && ninth == NULL)
             ninth = begin;
     }
-    checked.offset = (uint32_t)(r.at - text);
-    if (r.at < r.end || r.open > 0)
-        return checked;
-    checked.verdict = ninth != NULL ? TUPEHIWO_DEEP : TUPEHIWO_GRANTED;
-    if (ninth != NULL)
-        checked.offset = (uint32_t)(ninth - text);
-    return checked;
+    if (r.open > 0)
+        return checked_at(ntext, TUPEHIWO_FORM);
+    return ninth != NULL ? checked_at((size_t)(ninth - text), TUPEHIWO_DEEP)
+                         : checked_at(ntext, TUPEHIWO_GRANTED);
 }
 
 #endif
