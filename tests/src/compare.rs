@@ -89,6 +89,11 @@ impl Pair {
         self.words[MARGIN + word] >> (to % 64) & 1 == 1
     }
 
+    /// Whether the library left the same bytes and words to both.
+    pub fn has_memory_of(&self, other: &Pair) -> bool {
+        self.bytes == other.bytes && self.words == other.words
+    }
+
     /// How many flows the library has recorded.
     pub fn flows(&self) -> u32 {
         self.words[MARGIN..][..256].iter().map(|word| word.count_ones()).sum()

@@ -80,11 +80,18 @@ impl Shelf<'_> {
     }
 }
 
-/// Objects in each other, so many levels of them, numbered from a number on.
-pub fn nested(levels: usize, first: Number) -> Vec<u8> {
-    let line = |n: usize| format!("(object {} driver 0 level 0", usize::from(first) + n);
+/// Objects in each other, so many levels of them, numbered by their place.
+pub fn nested(levels: usize, number: impl Fn(usize) -> usize) -> Vec<u8> {
+    let line = |place| format!("(object {} driver 0 level 0", number(place));
     let lines: Vec<String> = (0..levels).map(line).collect();
     format!("{}{}\n", lines.join("\n"), ")".repeat(levels)).into_bytes()
+}
+
+/// One object with so many in it, numbered by their place, its own being 0.
+pub fn adjoining(count: usize, number: impl Fn(usize) -> usize) -> Vec<u8> {
+    let line = |place| format!("(object {} driver 0 level 0", number(place));
+    let inner: String = (1..=count).map(|place| format!("\n{})", line(place))).collect();
+    format!("{}{inner})\n", line(0)).into_bytes()
 }
 
 /// The text of a layout, under an order that passes: granted, or with one number
@@ -95,8 +102,8 @@ pub fn any(rng: &mut Rng, order: &Order) -> Vec<u8> {
     match rng.below(16) {
         0..4 => {}
         4..10 => change_number(rng, order, &mut text),
-        10 => text.extend(nested(8 + rng.below(3), 0)),
-        11 => text.splice(0..0, nested(9 + rng.below(9), 1)).for_each(drop),
+        10 => text.extend(nested(8 + rng.below(3), |place| place)),
+        11 => text.splice(0..0, nested(9 + rng.below(9), |place| place + 1)).for_each(drop),
         12 if rng.once_in(10) => lengthen(rng, &mut text),
         12.. => damage(rng, &mut text),
     }
