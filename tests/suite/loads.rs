@@ -118,8 +118,7 @@ const GOOD: [&str; 3] = [
     "",
 ];
 
-/// Every text that differs by one byte changed, left out or put in: any byte in the
-/// sample, one that the grammar knows or nearly does in the others.
+/// Every text that differs by one byte changed, left out or put in.
 #[test]
 fn every_text_near_a_good_one() {
     let mut pair = Pair::new("near texts");
@@ -130,12 +129,10 @@ fn every_text_near_a_good_one() {
         let place = [Verdict::Granted, Verdict::Form, Verdict::Deep].iter();
         settled[place.take_while(|&&other| other != verdict).count()] += 1;
     };
-    let all: Vec<u8> = (0..=255).collect();
-    for (number, good) in GOOD.iter().enumerate() {
-        let bytes = if number == 0 { &all[..] } else { texts::BYTES };
+    for good in GOOD {
         let good = good.as_bytes();
         for place in 0..=good.len() {
-            for &byte in bytes {
+            for byte in 0..=255 {
                 let mut text = good.to_vec();
                 text.insert(place, byte);
                 load(&text);
@@ -148,7 +145,7 @@ fn every_text_near_a_good_one() {
             load(&[&good[..place], &good[(place + 1).min(good.len())..]].concat());
         }
     }
-    assert!(settled[0] > 200 && settled[1] > 40_000, "{settled:?}");
+    assert!(settled[0] > 500 && settled[1] > 100_000, "{settled:?}");
 }
 
 /// Two of the grammar's own bytes changed, in every pair of places of a short text.
