@@ -155,14 +155,14 @@ static void build_load(struct item *item, const struct plan *plan)
     item->ntext = write_layout(&item->world, item->text);
 }
 
-/* As many roots as a text can hold, and in the place of the last line feed a space. */
+/* The longest text, with its last byte at fault. */
 static void build_load_broken(struct item *item, const struct plan *plan)
 {
     fill_and_use(item, plan);
     item->asked = LOAD;
     item->count = 1;
-    item->ntext = write_long_text(item->text);
-    item->text[item->ntext - 1] = ' ';
+    item->ntext = sizeof item->text;
+    write_long_text(&item->world, item->text);
     item->verdict = TUPEHIWO_FORM;
 }
 

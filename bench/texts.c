@@ -79,17 +79,14 @@ size_t write_layout(struct world *w, uint8_t *text)
     return d.length;
 }
 
-/* Lines of 28 bytes, and a few of 29. */
-size_t write_long_text(uint8_t *text)
+/* Layouts one after the other; where the text is full, one breaks off. */
+void write_long_text(struct world *w, uint8_t text[TUPEHIWO_LAYOUT_BYTES])
 {
-    static const char line[] = "(object 1 driver 0 level 0)\n",
-                      longer[] = "(object 10 driver 0 level 0)\n";
-    size_t most = TUPEHIWO_LAYOUT_BYTES, short_one = sizeof line - 1, length = 0;
-    size_t lines = most / short_one, rest = most % short_one;
-    for (size_t i = 0; i < lines; i++) {
-        const char *words = i < rest ? longer : line;
-        memcpy(text + length, words, strlen(words));
-        length += strlen(words);
+    static uint8_t one[TUPEHIWO_LAYOUT_BYTES];
+    for (size_t length = 0; length < TUPEHIWO_LAYOUT_BYTES;) {
+        size_t left = TUPEHIWO_LAYOUT_BYTES - length, next = write_layout(w, one);
+        memcpy(text + length, one, next < left ? next : left);
+        length += next;
     }
-    return length;
+    text[TUPEHIWO_LAYOUT_BYTES - 1] = 0;
 }

@@ -10,7 +10,7 @@
  */
 size_t write_layout(struct world *w, uint8_t *text);
 
-/* Roots in as many bytes as a text may have. */
-size_t write_long_text(uint8_t *text);
+/* As many bytes as a text may have, of which the last alone is at fault. */
+void write_long_text(struct world *w, uint8_t text[TUPEHIWO_LAYOUT_BYTES]);
 
 #endif
