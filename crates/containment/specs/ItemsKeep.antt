@@ -29,10 +29,10 @@ use Rattle.model.specs.Spread.{spread}
 use Rattle.model.specs.Monitor.{fitted, started, perform}
 use Rattle.model.specs.MarkLaws.{MoreMarks, kept-marked, kept-object, kept-driver}
 use Rattle.model.specs.SpreadLaws.{Closed, rest-closed, sized-more, spread-more, spread-only, spread-rests}
+use Rattle.model.specs.SoundLaws.{leaves-sound}
 use Rattle.model.specs.TableLaws.{Holds, refusals, event-done, fitted-done, start-done, refused-keeps}
 use Rattle.containment.specs.Lists.{Item, asks, reports, StandingOf, Role, starting, marking, other, role, entered, next, run, Admitted, Admissible}
 use Rattle.containment.specs.Claims.{Covered}
-use Rattle.containment.specs.Soundness.{leaves-sound}
 use Rattle.containment.specs.Tables.{flows, row}
 use Rattle.containment.specs.Invariant.{standing, Limits, Invariant, covered-below}
 use Rattle.containment.specs.Changes.{marks-limits}

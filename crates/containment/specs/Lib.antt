@@ -1,7 +1,6 @@
 pub mod Lists
 pub mod Chains
 pub mod Claims
-pub mod Soundness
 pub mod Tables
 pub mod Invariant
 pub mod Follows

@@ -24,15 +24,15 @@ use Rattle.model.specs.Events.{Test, need, OutcomeOf, unless, firstFailing, ver
 use Rattle.model.specs.Spread.{spread}
 use Rattle.model.specs.Monitor.{refusedUnless, fitted, start, started, perform}
 use Rattle.model.specs.MarkLaws.{where-rest}
+use Rattle.model.specs.SoundLaws as model
 use Rattle.model.specs.TableLaws.{refusals, start-done, by-call}
 use Rattle.model.specs.Trials.{Q}
 use Rattle.containment.specs.Lists.{Item, asks, reports, lent, StandingOf, Role, starting, marking, other, role, entered, next, run, Admitted, Admissible, begun}
-use Rattle.containment.specs.Claims.{Reached, Containment, Determined, RepeatedMark, NeverUnsound, FreeBare, DriversAbove, StartGranted, OwnOrderReached, MarkGranted, SpreadGranted, GrantedUnreached}
+use Rattle.containment.specs.Claims.{Reached, Containment, Determined, LeavesSound, RepeatedMark, NeverUnsound, FreeBare, DriversAbove, StartGranted, OwnOrderReached, MarkGranted, SpreadGranted, GrantedUnreached}
 use Rattle.containment.specs.Tables.{Table, flows, reads, writes, has}
 use Rattle.containment.specs.Invariant.{standing, Joined, Limits, joins, Invariant, contained}
 use Rattle.containment.specs.ItemsKeep.{start-keeps, run-keeps}
 use Rattle.containment.specs.Witness.{upward, upward-granted, upward-marks, none-leaves}
-pub use Rattle.containment.specs.Soundness.{leaves-sound}
 pub use Rattle.containment.specs.SpreadProof.{spread-exact}
 
 -- what a list begun by a granted start leaves
@@ -50,6 +50,11 @@ determined size o m n is g h = ap (λ (u : MemoryOf size). run is (standing o u 
   where
     left : (u : MemoryOf size) → perform o u Start .verdict ≡ granted → perform o u Start .memory ≡ started o
     left u e = ap (λ (out : OutcomeOf size). out .memory) (start-done o u (ap isDone e) .2)
+
+-- ---- soundness is kept
+
+pub leaves-sound : LeavesSound
+leaves-sound = model.leaves-sound
 
 -- ---- rows 2 and 3 do not apply
 

@@ -1,3 +1,11 @@
 pub mod Layout
 pub mod Reading
 pub mod Answers
+pub mod NumberLaws
+pub mod PlaceLaws
+pub mod ReadingLaws
+pub mod NestLaws
+pub mod AnswerLaws
+pub mod SettledLaws
+pub mod Claims
+pub mod Proved

@@ -111,12 +111,12 @@ pub data Settled : Type 0 where
 
 -- the brackets that are open after a byte
 unfoldable pub opened : ℕ → ℕ → ℕ
-opened open b = cond (eqb b opening) (open + 1) (cond (eqb b closing) (open - 1) open)
+opened held b = cond (eqb b opening) (held + 1) (cond (eqb b closing) (held - 1) held)
 
 -- how far it is to the first opening bracket inside eight open ones
 unfoldable pub ninthFrom : ℕ → List ℕ → ℕ
-ninthFrom open [] = 0
-ninthFrom open (b ∷ t) = cond (eqb b opening && leb mostDeep open) 0 (1 + ninthFrom (opened open b) t)
+ninthFrom held [] = 0
+ninthFrom held (b ∷ t) = cond (eqb b opening && leb mostDeep held) 0 (1 + ninthFrom (opened held b) t)
 
 unfoldable pub settledBy : List ℕ → Reading Layout → Settled
 settledBy t (found f u) = cond (leb (depth f) mostDeep) (fits f) (deep (ninthFrom 0 t))

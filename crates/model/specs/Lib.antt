@@ -13,4 +13,7 @@ pub mod Trials
 pub mod TrialsProved
 pub mod TableLaws
 pub mod EffectLaws
+pub mod SoundLaws
+pub mod LoadLaws
+pub mod ReadyLaws
 pub mod RiskLaws

@@ -1,8 +1,9 @@
 -- The power-up layout of document 02: the calls that a layout makes, and the load of a text.
 -- Assumes nothing.
-use mathlib.Core.Bool.{cond}
+use mathlib.Core.Bool.{Bool, cond, not, _||_}
 use mathlib.Core.List.{List, [], _∷_, _++_}
 use Prim.Native.Nat.{ℕ}
+use lib.Dec.{eqb}
 use lib.ListN.{length}
 use Rattle.rows.specs.Size.{Size}
 use Rattle.levels.specs.declared.Order.{Order}
@@ -55,6 +56,10 @@ module _ {size : Size} where
   -- as a start, it tests lengths and the order only
   unfoldable pub load : Order → MemoryOf size → List ℕ → OutcomeOf size
   load o m t = refusedUnless (lengthsFit m) row-state m (refusedUnless (orderPasses o) row-order m (laidOut o (settled t)))
+
+-- the verdict of a load that gets past rows 2 and 3: it makes the state of a start, refused or not
+unfoldable pub pastOrder : ℕ → Bool
+pastOrder v = not (eqb v row-state || eqb v row-order)
 
 -- ---- where a text is refused
 

@@ -93,6 +93,10 @@ pub fitted-refused : {size : Size} (o : Order) (m : MemoryOf size) (out : Outcom
 unfolding fitted
 fitted-refused o m out keeps = guarded-refused _ row-state m _ (guarded-refused _ row-order m out keeps)
 
+pub fitted-fits : {size : Size} (o : Order) (m : MemoryOf size) (out : OutcomeOf size) → lengthsFit m ≡ true → soundOf size o (m .bytes) ≡ true → orderPasses o ≡ true → fitted o m out ≡ out
+unfolding fitted refusedUnless
+fitted-fits o m out l s p = rw (l, s, p)
+
 -- an event that is done
 pub record Happened {size : Size} (o : Order) (m : MemoryOf size) (e : Event) : Type 0 where
   pub lengths : lengthsFit m ≡ true

@@ -18,22 +18,22 @@ use Rattle.levels.specs.OrderLaws.{is-order, both-in}
 use Rattle.records.specs.Records.{kind, isTask, isObject, soundOf, lentBytes}
 use Rattle.records.specs.RecordLaws.{field-else, in-use, long}
 use Rattle.records.specs.KeepLaws.{task-made, PlaceFits, object-made, object-moved, object-cleared, mark-kept, sound-start}
+use Rattle.model.specs.declared.Call.{Call}
 use Rattle.model.specs.declared.Call.the-variants.{Start, Read, Write, Execute, Create, CreateRoot, Move, Delete, CallTask, Invoke, Pass, Post, Find, Mark, Step, Spread}
 use Rattle.model.specs.Verdicts.{isDone}
 use Rattle.model.specs.State.{MemoryOf, lengthsFit, inUse, task, object, driverOf, liesIn}
 use Rattle.model.specs.StateLaws.{object-used}
 use Rattle.model.specs.Effects.{Effect, flow, flow-if, read-access, write-access, make-task, make-object, move-to, clear, mark-outside, mark-thing, objectOf, markWhere, effect, effects}
 use Rattle.model.specs.Events.{Event, outcome, read, write, execute, create, createRoot, move, delete, callTask, invoke, pass, post, find, mark, step}
 use Rattle.model.specs.Spread.{reached, driven, round, spread}
-use Rattle.model.specs.Monitor.{fitted, started, start}
+use Rattle.model.specs.Monitor.{fitted, started, start, perform}
 use Rattle.model.specs.MarkLaws.{where-keeps}
 use Rattle.model.specs.SpreadLaws.{after-keeps, spread-more}
 use Rattle.model.specs.TableLaws.{Happened, refusals, event-done, fitted-done, start-done}
 use Rattle.model.specs.EffectLaws.{fit-long, long-fits, effect-long}
-use Rattle.containment.specs.Claims.{LeavesSound}
 
 module _ {size : Size} where
-  abbrev Sound : Order → MemoryOf size → Type 0
+  abbrev pub Sound : Order → MemoryOf size → Type 0
   Sound o m = (lengthsFit m ≡ true) × (soundOf size o (m .bytes) ≡ true)
 
   -- ---- each kind of effect
@@ -112,14 +112,14 @@ module _ {size : Size} where
 
 -- ---- every call
 
-started-sound : (size : Size) (o : Order) → orderPasses o ≡ true → Sound o (started {size = size} o)
+pub started-sound : (size : Size) (o : Order) → orderPasses o ≡ true → Sound o (started {size = size} o)
 unfolding started
 started-sound size o h =
     let q = is-order o h in
     let s = sound-start size o (lentBytes size) refl (both-in o 0 (o .top) (q .upper 0 (q .some)) .1) in
     (long-fits (record { bytes-long = long size o _ s; words-long = length-replicate {A = ℕ} (lentWords size) 0 }), s)
 
-pub leaves-sound : LeavesSound
+pub leaves-sound : (size : Size) (o : Order) (m : MemoryOf size) (c : Call) → isDone (perform o m c .verdict) ≡ true → Sound o (perform o m c .memory)
 unfolding object read write execute create createRoot move delete callTask invoke pass post find mark step spread start started
 leaves-sound size o m Start h = let d = start-done o m h in rw (d .2) (started-sound size o (d .1))
 leaves-sound size o m (Read e d x) h = event-sound o m (read o m e d x) refl (λ t. (tt, (tt, (tt, (tt, tt))))) h

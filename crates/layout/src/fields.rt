@@ -1,0 +1,233 @@
+// The numbers, words and brackets of a layout's text, read in place: the heads of objects, and tasks.
+ghost use mathlib.Core.Path.{_≡_};
+ghost use Prim.Native.Nat.{_≤_};
+ghost use lib.ListN.{length, drop};
+ghost use Rattle.layout.specs.Reading.{number, field, head, taskAt};
+ghost use Rattle.layout.specs.Answers.{digitAt, standsAt, fieldAnswer, leftField, headAnswer, leftHead, taskAnswer, leftTask};
+
+// A number and where it ends, or where the reader leaves.
+pub enum Field {
+    Number { value: u16, end: usize },
+    Missing { at: usize },
+}
+
+// An object's numbers and where they end, or where the reader leaves.
+pub enum Heading {
+    Holds {
+        number: u16,
+        driver: u16,
+        level: u16,
+        end: usize,
+    },
+    Headless {
+        at: usize,
+    },
+}
+
+// A task's numbers and where its form ends, or where the reader leaves.
+pub enum Running {
+    Runs {
+        number: u16,
+        image: u16,
+        level: u16,
+        reads: u16,
+        end: usize,
+    },
+    Idle {
+        at: usize,
+    },
+}
+
+// Whether the byte b stands at `at`.
+pub fn is_at(text: &[u8], at: usize, b: u8) -> bool
+    ensures { λ r. ⌜ r ≡ standsAt b (drop at (now (text .entry))) ⌝ }
+{
+    if at >= text.len() {
+        return false;
+    }
+    text[at] == b
+}
+
+// The digit at `at`, and 10 if there is none.
+fn digit_at(text: &[u8], at: usize) -> u16
+    ensures { λ r. ⌜ r ≡ digitAt (drop at (now (text .entry))) ⌝ }
+{
+    if at >= text.len() {
+        return 10;
+    }
+    let b = text[at];
+    if b < b'0' {
+        return 10;
+    }
+    if b > b'9' {
+        return 10;
+    }
+    (b - b'0') as u16
+}
+
+fn number_at(text: &[u8], at: usize) -> Field
+    requires { ⌜ at ≤ length (now text) ⌝ }
+    ensures { λ r. ⌜ r ≡ fieldAnswer (length (now (text .entry))) (number (drop at (now (text .entry)))) ⌝ }
+{
+    let a = digit_at(text, at);
+    if a > 9 {
+        return Field::Missing { at };
+    }
+    if a == 0 {
+        return Field::Number {
+            value: 0,
+            end: at + 1,
+        };
+    }
+    let b = digit_at(text, at + 1);
+    if b > 9 {
+        return Field::Number {
+            value: a,
+            end: at + 1,
+        };
+    }
+    let c = digit_at(text, at + 2);
+    if c > 9 {
+        return Field::Number {
+            value: 10 * a + b,
+            end: at + 2,
+        };
+    }
+    Field::Number {
+        value: 10 * (10 * a + b) + c,
+        end: at + 3,
+    }
+}
+
+// A word at `at`, and the number after it.
+fn field_at(text: &[u8], at: usize, word: &[u8]) -> Field
+    requires { ⌜ at ≤ length (now text) ⌝ }
+    ensures { λ r. ⌜ r ≡ fieldAnswer (length (now (text .entry))) (field (now (word .entry)) (drop at (now (text .entry)))) ⌝ }
+{
+    let mut i = 0;
+    let mut p = at;
+    while i < word.len() {
+        if p >= text.len() {
+            return Field::Missing { at: p };
+        }
+        if text[p] != word[i] {
+            return Field::Missing { at: p };
+        }
+        i += 1;
+        p += 1;
+    }
+    number_at(text, p)
+}
+
+// Where the reader left a field, or where it read on.
+fn left_field(field: Field) -> usize
+    ensures { λ r. ⌜ r ≡ leftField field ⌝ }
+{
+    match field {
+        Field::Number { value: _, end } => end,
+        Field::Missing { at } => at,
+    }
+}
+
+// An object's words, up to what it holds.
+pub fn head_at(text: &[u8], at: usize) -> Heading
+    requires { ⌜ at ≤ length (now text) ⌝ }
+    ensures { λ r. ⌜ r ≡ headAnswer (length (now (text .entry))) (head (drop at (now (text .entry)))) ⌝ }
+{
+    let first = field_at(text, at, b"(object ");
+    let Field::Number { value: number, end } = first else {
+        return Heading::Headless {
+            at: left_field(first),
+        };
+    };
+    let second = field_at(text, end, b" driver ");
+    let Field::Number { value: driver, end } = second else {
+        return Heading::Headless {
+            at: left_field(second),
+        };
+    };
+    let third = field_at(text, end, b" level ");
+    let Field::Number { value: level, end } = third else {
+        return Heading::Headless {
+            at: left_field(third),
+        };
+    };
+    Heading::Holds {
+        number,
+        driver,
+        level,
+        end,
+    }
+}
+
+// Where the reader left an object's words, or where it read on.
+pub fn left_head(heading: Heading) -> usize
+    ensures { λ r. ⌜ r ≡ leftHead heading ⌝ }
+{
+    match heading {
+        Heading::Holds {
+            number: _,
+            driver: _,
+            level: _,
+            end,
+        } => end,
+        Heading::Headless { at } => at,
+    }
+}
+
+// A task's form, from its opening bracket to its closing one.
+pub fn task_at(text: &[u8], at: usize) -> Running
+    requires { ⌜ at ≤ length (now text) ⌝ }
+    ensures { λ r. ⌜ r ≡ taskAnswer (length (now (text .entry))) (taskAt (drop at (now (text .entry)))) ⌝ }
+{
+    let first = field_at(text, at, b"(task ");
+    let Field::Number { value: number, end } = first else {
+        return Running::Idle {
+            at: left_field(first),
+        };
+    };
+    let second = field_at(text, end, b" image ");
+    let Field::Number { value: image, end } = second else {
+        return Running::Idle {
+            at: left_field(second),
+        };
+    };
+    let third = field_at(text, end, b" level ");
+    let Field::Number { value: level, end } = third else {
+        return Running::Idle {
+            at: left_field(third),
+        };
+    };
+    let fourth = field_at(text, end, b" reads ");
+    let Field::Number { value: reads, end } = fourth else {
+        return Running::Idle {
+            at: left_field(fourth),
+        };
+    };
+    if !is_at(text, end, b')') {
+        return Running::Idle { at: end };
+    }
+    Running::Runs {
+        number,
+        image,
+        level,
+        reads,
+        end: end + 1,
+    }
+}
+
+// Where the reader left a task's form, or where it read on.
+pub fn left_task(running: Running) -> usize
+    ensures { λ r. ⌜ r ≡ leftTask running ⌝ }
+{
+    match running {
+        Running::Runs {
+            number: _,
+            image: _,
+            level: _,
+            reads: _,
+            end,
+        } => end,
+        Running::Idle { at } => at,
+    }
+}
