@@ -8,10 +8,14 @@ ghost use Rattle.model.specs.Ready.{Ready};
 ghost use Rattle.model.specs.Events.{left};
 ghost use Rattle.model.specs.Monitor as model;
 ghost use Rattle.model.specs.Monitor.{raised, oneMore, started, nextMarked};
+ghost use Rattle.model.specs.Load as loads;
+ghost use Rattle.model.specs.Load.{layoutChecked};
 ghost use Rattle.monitor.specs.Request.{callOf};
+use layout::Text;
 use levels::Order;
 use model::Answer;
 use model::Call;
+use model::Checked;
 use model::Report;
 use model::Tally;
 
@@ -264,6 +268,64 @@ pub extern "C" fn tupehiwo_perform(
     let done = perform_request(bytes, words, before, order, request);
     *tally = done.tally;
     done.answer
+}
+
+// A whole load, with the tally by value.
+pub fn load_counted(
+    bytes: &mut [u8],
+    words: &mut [u64],
+    tally: Tally,
+    order: Order,
+    text: &[u8],
+) -> Counted
+    ensures { λ r. ⌜ (left (r .answer .verdict) (r .answer .rounds) (now (bytes .exit)) (now (words .exit)) ≡ loads.load order (memory (now (bytes .entry)) (now (words .entry))) (now (text .entry)))
+        × (r .tally ≡ raised tally (loads.load order (memory (now (bytes .entry)) (now (words .entry))) (now (text .entry)) .verdict)) ⌝ }
+{
+    let verdict = load(bytes, words, order, text);
+    let next = count(tally, verdict);
+    Counted {
+        answer: plain(verdict),
+        tally: next,
+    }
+}
+
+// A load, as C and Rust call it.
+#[no_mangle]
+pub extern "C" fn tupehiwo_load(
+    bytes: &mut [u8],
+    words: &mut [u64],
+    tally: &mut Tally,
+    order: Order,
+    text: &[u8],
+) -> Answer
+    ensures { λ r. ⌜ (left (r .verdict) (r .rounds) (now (bytes .exit)) (now (words .exit)) ≡ loads.load order (memory (now (bytes .entry)) (now (words .entry))) (now (text .entry)))
+        × (now (tally .exit) ≡ raised (now (tally .entry)) (loads.load order (memory (now (bytes .entry)) (now (words .entry))) (now (text .entry)) .verdict)) ⌝ }
+{
+    let before = *tally;
+    let done = load_counted(bytes, words, before, order, text);
+    *tally = done.tally;
+    done.answer
+}
+
+// Where a text is refused before any call, as C and Rust call it.
+#[no_mangle]
+pub extern "C" fn tupehiwo_layout(text: &[u8]) -> Checked
+    ensures { λ r. ⌜ r ≡ layoutChecked (now (text .entry)) ⌝ }
+{
+    match layout::check(text) {
+        Text::Fits => Checked {
+            offset: text.len() as u32,
+            verdict: model::GRANTED,
+        },
+        Text::Broken { at } => Checked {
+            offset: at as u32,
+            verdict: model::FORM,
+        },
+        Text::Deep { at } => Checked {
+            offset: at as u32,
+            verdict: model::DEEP,
+        },
+    }
 }
 
 // The report, as C and Rust call it.
