@@ -16,6 +16,13 @@ struct tupehiwo_answer baseline_perform(uint8_t *bytes, size_t nbytes, uint64_t 
                                         struct tupehiwo_order order,
                                         struct tupehiwo_request request);
 
+struct tupehiwo_answer baseline_load(uint8_t *bytes, size_t nbytes, uint64_t *words,
+                                     size_t nwords, struct tupehiwo_tally *tally,
+                                     struct tupehiwo_order order, const uint8_t *text,
+                                     size_t ntext);
+
+struct tupehiwo_checked baseline_layout(const uint8_t *text, size_t ntext);
+
 struct tupehiwo_report baseline_report(const uint8_t *bytes, size_t nbytes,
                                        const uint64_t *words, size_t nwords,
                                        struct tupehiwo_order order);

@@ -2,11 +2,14 @@
 
 #include <string.h>
 
+#include "texts.h"
+
 static void request(struct item *item, unsigned code, unsigned a, unsigned b, unsigned c,
                     unsigned d, unsigned e)
 {
     struct tupehiwo_request q = {(uint16_t)code, (uint16_t)a, (uint16_t)b,
                                  (uint16_t)c,    (uint16_t)d, (uint16_t)e};
+    item->asked = REQUESTS;
     item->requests[item->count++] = q;
 }
 
@@ -138,6 +141,43 @@ static void build_report(struct item *item, const struct plan *plan)
     fill_and_use(item, plan);
     mark(item, any(&item->world, TASK));
     must(&item->world, TUPEHIWO_CODE_SPREAD, 0, 0, 0, 0, 0);
+    item->asked = REPORT;
+}
+
+/* ----------------------------------------------------------------- layouts */
+
+/* The text of a random layout, with all numbers but the core's. */
+static void build_load(struct item *item, const struct plan *plan)
+{
+    fill_and_use(item, plan);
+    item->asked = LOAD;
+    item->count = 1;
+    item->ntext = write_layout(&item->world, item->text);
+}
+
+/* The longest text, with its last byte at fault. */
+static void build_load_broken(struct item *item, const struct plan *plan)
+{
+    fill_and_use(item, plan);
+    item->asked = LOAD;
+    item->count = 1;
+    item->ntext = sizeof item->text;
+    write_long_text(&item->world, item->text);
+    item->verdict = TUPEHIWO_FORM;
+}
+
+static void build_check(struct item *item, const struct plan *plan)
+{
+    build_load(item, plan);
+    item->asked = CHECK;
+    item->count = 0;
+}
+
+static void build_check_broken(struct item *item, const struct plan *plan)
+{
+    build_load_broken(item, plan);
+    item->asked = CHECK;
+    item->count = 0;
 }
 
 /* ----------------------------------------------------------------- spreads */
@@ -216,6 +256,10 @@ const struct bench_case cases[] = {
     {"mark_of_a_driver_of_60_objects", build_mark, FIRST_THINGS + OBJECTS_OF_ONE + 1, 1},
     {"step", build_step, FIRST_THINGS, 0},
     {"report", build_report, FIRST_THINGS, 1},
+    {"load_of_127_things", build_load, TUPEHIWO_THINGS, 1},
+    {"load_of_16_KiB_refused_at_the_end", build_load_broken, TUPEHIWO_THINGS, 1},
+    {"check_of_127_things", build_check, TUPEHIWO_THINGS, 1},
+    {"check_of_16_KiB_refused_at_the_end", build_check_broken, TUPEHIWO_THINGS, 1},
     {"spread_of_a_chain", build_chain, TUPEHIWO_THINGS, 0},
     {"spread_of_a_star", build_star, FIRST_THINGS, 0},
     {"spread_of_a_dense_graph", build_dense, FIRST_THINGS, 0},
@@ -225,7 +269,7 @@ const struct bench_case cases[] = {
 
 const unsigned case_count = sizeof cases / sizeof cases[0];
 const struct bench_case *const case_write = &cases[1], *const case_unsound = &cases[5],
-                               *const case_chain = &cases[11];
+                               *const case_chain = &cases[15];
 
 void build_item(struct item *item, const struct bench_case *subject, const struct plan *plan,
                 uint64_t seed)

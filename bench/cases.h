@@ -1,4 +1,7 @@
-/* What is measured: each case makes a state, and asks one or two calls or a report of it. */
+/*
+ * What is measured: each case makes a state, and asks one or two calls, a load, the
+ * check of a text or a report of it.
+ */
 #ifndef CASES_H
 #define CASES_H
 
@@ -10,12 +13,17 @@ struct plan {
     unsigned unsound; /* the record that is, where one is; 0 for the last */
 };
 
-/* A state, and what is asked on it: requests, or a report if there is none. */
+enum asked { REQUESTS, LOAD, CHECK, REPORT };
+
+/* A state, and what is asked on it. */
 struct item {
     struct world world;
+    enum asked asked;
     struct tupehiwo_request requests[2];
     unsigned count;
-    uint8_t verdict; /* that each request must give */
+    uint8_t text[TUPEHIWO_LAYOUT_BYTES]; /* of a load or a check */
+    size_t ntext;
+    uint8_t verdict; /* that each request, the load or the check must give */
     uint8_t rounds;  /* and how many rounds, or ANY_ROUNDS */
 };
 

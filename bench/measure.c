@@ -12,6 +12,7 @@ enum { MOST_BATCHES = 4096 };
 struct trial {
     struct tupehiwo_monitor memory;
     struct tupehiwo_answer answers[2];
+    struct tupehiwo_checked checked;
     struct tupehiwo_report report;
 };
 
@@ -24,17 +25,28 @@ static void restore(const struct item items[VARIANTS])
         trials[v].memory = items[v].world.m;
 }
 
+static inline void run_item(const struct side *side, const struct item *item,
+                            struct trial *trial)
+{
+    switch (item->asked) {
+    case REQUESTS:
+        for (unsigned i = 0; i < item->count; i++)
+            trial->answers[i] = ask(side, &trial->memory, item->requests[i]);
+        break;
+    case LOAD:
+        trial->answers[0] = ask_load(side, &trial->memory, item->text, item->ntext);
+        break;
+    case CHECK: trial->checked = side->layout(item->text, item->ntext); break;
+    case REPORT: trial->report = ask_report(side, &trial->memory); break;
+    }
+}
+
 /* Not inlined: the counter of instructions finds it by its name. */
 __attribute__((noinline)) void run_batch(const struct side *side,
                                          const struct item items[VARIANTS])
 {
-    for (unsigned v = 0; v < VARIANTS; v++) {
-        struct trial *trial = &trials[v];
-        for (unsigned i = 0; i < items[v].count; i++)
-            trial->answers[i] = ask(side, &trial->memory, items[v].requests[i]);
-        if (items[v].count == 0)
-            trial->report = ask_report(side, &trial->memory);
-    }
+    for (unsigned v = 0; v < VARIANTS; v++)
+        run_item(side, &items[v], &trials[v]);
 }
 
 /* ------------------------------------------------------------------ checks */
@@ -49,7 +61,8 @@ static int same_trial(const struct trial *a, const struct trial *b)
 {
     return memcmp(&a->memory, &b->memory, sizeof a->memory) == 0 &&
            memcmp(a->answers, b->answers, sizeof a->answers) == 0 &&
-           same_report(&a->report, &b->report);
+           a->checked.offset == b->checked.offset &&
+           a->checked.verdict == b->checked.verdict && same_report(&a->report, &b->report);
 }
 
 static int expected(const struct item *item, const struct trial *trial)
@@ -57,6 +70,8 @@ static int expected(const struct item *item, const struct trial *trial)
     for (unsigned i = 0; i < item->count; i++)
         if (trial->answers[i].verdict != item->verdict)
             return 0;
+    if (item->asked == CHECK && trial->checked.verdict != item->verdict)
+        return 0;
     return (item->rounds == ANY_ROUNDS || trial->answers[0].rounds == item->rounds) &&
            trial->report.verdict == TUPEHIWO_GRANTED;
 }

@@ -6,7 +6,7 @@
 #ifndef RULES_H
 #define RULES_H
 
-#include "baseline.h"
+#include "layout.h"
 
 #include <string.h>
 
@@ -456,6 +456,64 @@ struct tupehiwo_answer baseline_perform(uint8_t *bytes, size_t nbytes, uint64_t 
     }
     raise(tally, answer.verdict);
     return answer;
+}
+
+/* The calls of one object: a root's, or two writes to the container and a create in it. */
+static uint8_t lay_object(struct state *s, const struct form *form, unsigned container)
+{
+    if (form->depth == 0)
+        return create(s, 0, form->driver, form->number, ROOT, 1, form->level);
+    unsigned through = field(s, container, DRIVER);
+    uint8_t verdict = write(s, 0, through, container);
+    if (verdict == TUPEHIWO_GRANTED)
+        verdict = write(s, form->driver, through, container);
+    if (verdict == TUPEHIWO_GRANTED)
+        verdict = create(s, 0, form->driver, form->number, container, 0, form->level);
+    return verdict;
+}
+
+/* The calls of a text whose form is good, up to the first that is refused. */
+static uint8_t lay_out(struct state *s, const uint8_t *text, size_t ntext)
+{
+    struct reader r = {text, text + ntext, 0};
+    unsigned holding[TUPEHIWO_LAYOUT_DEPTH + 1] = {0}; /* the object at each depth */
+    struct form form;
+    uint8_t verdict = TUPEHIWO_GRANTED;
+    while (verdict == TUPEHIWO_GRANTED && r.at < r.end && read_form(&r, &form)) {
+        if (form.task) {
+            verdict = execute(s, 0, form.image, form.number, form.level, form.reads);
+        } else {
+            verdict = lay_object(s, &form, holding[form.depth]);
+            holding[form.depth + 1] = form.number;
+        }
+    }
+    return verdict;
+}
+
+/* A refusal past the order leaves the state of a start. */
+struct tupehiwo_answer baseline_load(uint8_t *bytes, size_t nbytes, uint64_t *words,
+                                     size_t nwords, struct tupehiwo_tally *tally,
+                                     struct tupehiwo_order order, const uint8_t *text,
+                                     size_t ntext)
+{
+    struct state s = {bytes, words, &order};
+    struct tupehiwo_answer answer = {fit(bytes, nbytes, nwords, &order, 1), 0};
+    if (answer.verdict == TUPEHIWO_GRANTED) {
+        start(&s);
+        answer.verdict = check_layout(text, ntext).verdict;
+        if (answer.verdict == TUPEHIWO_GRANTED) {
+            answer.verdict = lay_out(&s, text, ntext);
+            if (answer.verdict != TUPEHIWO_GRANTED)
+                start(&s);
+        }
+    }
+    raise(tally, answer.verdict);
+    return answer;
+}
+
+struct tupehiwo_checked baseline_layout(const uint8_t *text, size_t ntext)
+{
+    return check_layout(text, ntext);
 }
 
 struct tupehiwo_report baseline_report(const uint8_t *bytes, size_t nbytes,

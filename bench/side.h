@@ -9,20 +9,34 @@ struct side {
                                       size_t nwords, struct tupehiwo_tally *tally,
                                       struct tupehiwo_order order,
                                       struct tupehiwo_request request);
+    struct tupehiwo_answer (*load)(uint8_t *bytes, size_t nbytes, uint64_t *words,
+                                   size_t nwords, struct tupehiwo_tally *tally,
+                                   struct tupehiwo_order order, const uint8_t *text,
+                                   size_t ntext);
+    struct tupehiwo_checked (*layout)(const uint8_t *text, size_t ntext);
     struct tupehiwo_report (*report)(const uint8_t *bytes, size_t nbytes, const uint64_t *words,
                                      size_t nwords, struct tupehiwo_order order);
 };
 
 enum { PLAIN, PROVED, SIDES };
 
-static const struct side sides[SIDES] = {{baseline_perform, baseline_report},
-                                         {tupehiwo_perform, tupehiwo_report}};
+static const struct side sides[SIDES] = {
+    {baseline_perform, baseline_load, baseline_layout, baseline_report},
+    {tupehiwo_perform, tupehiwo_load, tupehiwo_layout, tupehiwo_report}};
 
 static inline struct tupehiwo_answer ask(const struct side *side, struct tupehiwo_monitor *m,
                                          struct tupehiwo_request request)
 {
     return side->perform(m->bytes, TUPEHIWO_BYTES, m->words, TUPEHIWO_WORDS, &m->tally,
                          m->order, request);
+}
+
+static inline struct tupehiwo_answer ask_load(const struct side *side,
+                                              struct tupehiwo_monitor *m,
+                                              const uint8_t *text, size_t ntext)
+{
+    return side->load(m->bytes, TUPEHIWO_BYTES, m->words, TUPEHIWO_WORDS, &m->tally, m->order,
+                      text, ntext);
 }
 
 static inline struct tupehiwo_report ask_report(const struct side *side,

@@ -5,8 +5,9 @@
  * what, and which of them are marked as captured. It keeps nothing of its own:
  * each call is lent 1,024 bytes and 768 words, and the order of the levels.
  *
- * Either lend your own memory to tupehiwo_perform and tupehiwo_report, or keep
- * a struct tupehiwo_monitor and use the inline function of each call below.
+ * Either lend your own memory to tupehiwo_perform, tupehiwo_load and
+ * tupehiwo_report, or keep a struct tupehiwo_monitor and use the inline function
+ * of each call below.
  *
  * Link with libmonitor.a.
  *
@@ -15,8 +16,24 @@
  * marks (1 marked, plus 2 marked from outside), two zero bytes. Words: two for
  * each row, number 0 in the lowest bit of the first; 128 rows of flows (row is
  * the source), 128 of read accesses, 128 of write accesses (row is the task).
- * Bytes, words and tally must not overlap. Calls on different memory may run at
- * the same time.
+ * Bytes, words and tally must not overlap, nor a text with any of them. Calls on
+ * different memory may run at the same time.
+ *
+ * A layout is a text that says which tasks and objects an instrument has when it
+ * is switched on:
+ *
+ *     (object 10 driver 0 level 3
+ *     (object 11 driver 0 level 2))
+ *     (task 1 image 11 level 2 reads 0)
+ *
+ * A form stands on a line: an object with its driver and level, or a task with the
+ * object that it is run from, its level and its read level. What lies in an object
+ * stands on the lines after it, before its closing bracket; only objects lie in
+ * objects, up to eight deep. Closing brackets stand at a line's end, one space
+ * parts words, a line feed ends each line, the last too, and nothing else stands
+ * anywhere: no tab, no empty line, no remark. A number has at most three digits and
+ * no leading zero. A text has at most 16 KiB and may be empty. What a form names as
+ * its driver or its image has to stand before it, or to be the core.
  */
 #ifndef TUPEHIWO_H
 #define TUPEHIWO_H
@@ -31,15 +48,20 @@ extern "C" {
 /* ------------------------------------------------------------------ sizes */
 
 enum {
-    TUPEHIWO_THINGS = 128, /* numbers 0 to 127; 0 is the core, a task */
-    TUPEHIWO_BYTES = 1024, /* eight bytes for each number */
-    TUPEHIWO_WORDS = 768,  /* flows at 0, read accesses at 256, write accesses at 512 */
-    TUPEHIWO_LEVELS = 16   /* rows of an order */
+    TUPEHIWO_THINGS = 128,         /* numbers 0 to 127; 0 is the core, a task */
+    TUPEHIWO_BYTES = 1024,         /* eight bytes for each number */
+    TUPEHIWO_WORDS = 768,          /* flows at 0, read accesses at 256, write accesses at 512 */
+    TUPEHIWO_LEVELS = 16,          /* rows of an order */
+    TUPEHIWO_LAYOUT_BYTES = 16384, /* the longest text of a layout */
+    TUPEHIWO_LAYOUT_DEPTH = 8      /* objects in objects, a root object being the first */
 };
 
 /* --------------------------------------------------------------- verdicts */
 
-/* What a call answers. The lowest refusal that applies is given. */
+/*
+ * What a call answers. The lowest refusal that applies is given, but form and deep
+ * come right after order.
+ */
 enum {
     TUPEHIWO_GRANTED = 0, /* done */
     TUPEHIWO_SLIPPED = 1, /* done, though only a marked driver lets it through */
@@ -54,7 +76,9 @@ enum {
     TUPEHIWO_PATH = 10,   /* the path test of read or call fails */
     TUPEHIWO_RULE = 11,   /* another level test fails */
     TUPEHIWO_FILLED = 12, /* a container to be deleted holds an object */
-    TUPEHIWO_STILL = 13   /* a step has nothing to mark */
+    TUPEHIWO_STILL = 13,  /* a step has nothing to mark */
+    TUPEHIWO_FORM = 14,   /* the text is no layout's, or too long */
+    TUPEHIWO_DEEP = 15    /* an object lies at a ninth level */
 };
 
 /* ------------------------------------------------------------------ codes */
@@ -124,6 +148,43 @@ struct tupehiwo_answer tupehiwo_perform(uint8_t *bytes, size_t nbytes, uint64_t 
                                         struct tupehiwo_order order,
                                         struct tupehiwo_request request);
 
+/*
+ * Begins anew with a layout: what a start leaves, and then the calls of the forms,
+ * in the text's order, by the core (task 0): tupehiwo_create_root for an object in
+ * none, tupehiwo_execute for a task. Before tupehiwo_create for an object in
+ * another, the core and then the new object's driver each write to the container,
+ * through the container's driver. The load counts once in the tally, its calls not
+ * at all.
+ *
+ * As a start does, it tests only the lengths for TUPEHIWO_STATE, then the order;
+ * refused so, it leaves all as it was. Then the whole text is tested for its form
+ * (TUPEHIWO_FORM), then for its depth (TUPEHIWO_DEEP), before any call. The first
+ * call that is refused ends the load, which answers with its verdict. After each of
+ * these refusals the memory is that of a start under the order lent.
+ *
+ * It takes less than 4 KiB of stack for every text.
+ */
+struct tupehiwo_answer tupehiwo_load(uint8_t *bytes, size_t nbytes, uint64_t *words,
+                                     size_t nwords, struct tupehiwo_tally *tally,
+                                     struct tupehiwo_order order, const uint8_t *text,
+                                     size_t ntext);
+
+/* Where a text was left, in bytes from its beginning, and why. */
+struct tupehiwo_checked {
+    uint32_t offset;
+    uint8_t verdict;
+};
+
+/*
+ * What a load says of a text alone: TUPEHIWO_FORM, TUPEHIWO_DEEP, or
+ * TUPEHIWO_GRANTED where it would get to its calls. The offset is that of the first
+ * byte that no layout has there (the text's length, where the text breaks off), for
+ * a text that is too long 16,384; for TUPEHIWO_DEEP that of the first opening
+ * bracket of a ninth level; otherwise the text's length. It takes less than 4 KiB of
+ * stack for every text.
+ */
+struct tupehiwo_checked tupehiwo_layout(const uint8_t *text, size_t ntext);
+
 /* The marked numbers; no words and no ones when refused (state, order). */
 struct tupehiwo_report tupehiwo_report(const uint8_t *bytes, size_t nbytes,
                                        const uint64_t *words, size_t nwords,
@@ -140,13 +201,13 @@ uint16_t tupehiwo_next_marked(struct tupehiwo_report report, uint16_t from);
 
 /*
  * The memory of one monitor. All zeros is a fit beginning: every call but a
- * start is then refused with TUPEHIWO_STATE.
+ * start or a load is then refused with TUPEHIWO_STATE.
  */
 struct tupehiwo_monitor {
     uint8_t bytes[TUPEHIWO_BYTES];
     uint64_t words[TUPEHIWO_WORDS];
     struct tupehiwo_tally tally;
-    struct tupehiwo_order order; /* that of the last granted start */
+    struct tupehiwo_order order; /* that of the last start or load that made the state anew */
 };
 
 /*
@@ -179,6 +240,23 @@ static inline uint8_t tupehiwo_start(struct tupehiwo_monitor *m, struct tupehiwo
     struct tupehiwo_answer answer = tupehiwo_perform(m->bytes, TUPEHIWO_BYTES, m->words,
                                                      TUPEHIWO_WORDS, &m->tally, order, request);
     if (answer.verdict == TUPEHIWO_GRANTED)
+        m->order = order;
+    return answer.verdict;
+}
+
+/*
+ * Begins anew with a layout under an order. Refused with TUPEHIWO_ORDER it keeps the
+ * memory and the old order; refused otherwise it leaves the core alone, as a start
+ * does, under the new one.
+ */
+static inline uint8_t tupehiwo_monitor_load(struct tupehiwo_monitor *m,
+                                            struct tupehiwo_order order, const void *text,
+                                            size_t ntext)
+{
+    struct tupehiwo_answer answer =
+        tupehiwo_load(m->bytes, TUPEHIWO_BYTES, m->words, TUPEHIWO_WORDS, &m->tally, order,
+                      (const uint8_t *)text, ntext);
+    if (answer.verdict != TUPEHIWO_STATE && answer.verdict != TUPEHIWO_ORDER)
         m->order = order;
     return answer.verdict;
 }
@@ -300,8 +378,26 @@ static inline const char *tupehiwo_word(uint64_t verdict)
 {
     static const char *const words[] = {"granted", "slipped", "state",  "order", "number",
                                         "taken",   "driver",  "place",  "held",  "scale",
-                                        "path",    "rule",    "filled", "still"};
+                                        "path",    "rule",    "filled", "still", "form",
+                                        "deep"};
     return verdict < sizeof words / sizeof words[0] ? words[verdict] : "unknown";
+}
+
+/* A place in a text, as editors count: both from 1, a column for each byte. */
+struct tupehiwo_place {
+    size_t line, column;
+};
+
+/* The place of an offset, which is at most the text's length. */
+static inline struct tupehiwo_place tupehiwo_place_of(const void *text, size_t offset)
+{
+    const uint8_t *bytes = (const uint8_t *)text;
+    struct tupehiwo_place place = {1, 1};
+    for (size_t i = 0; i < offset; i++) {
+        place.line += bytes[i] == '\n';
+        place.column = bytes[i] == '\n' ? 1 : place.column + 1;
+    }
+    return place;
 }
 
 #ifdef __cplusplus

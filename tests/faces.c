@@ -1,7 +1,7 @@
 /*
  * The inline functions of the header: each makes the request that it names, on
- * the memory of its monitor. A perform of the test's own stands in for the
- * library and keeps what it was lent. Compiled as C and as C++.
+ * the memory of its monitor. A perform and a load of the test's own stand in for
+ * the library and keep what they were lent. Compiled as C and as C++.
  */
 #include "calls.h"
 
@@ -10,6 +10,8 @@ static struct {
     size_t nbytes, nwords;
     struct tupehiwo_order order;
     struct tupehiwo_request request;
+    const void *text;
+    size_t ntext;
     uint8_t verdict; /* what to answer */
 } lent;
 
@@ -27,6 +29,17 @@ struct tupehiwo_answer tupehiwo_perform(uint8_t *bytes, size_t nbytes, uint64_t 
     lent.order = order;
     lent.request = request;
     return answer;
+}
+
+struct tupehiwo_answer tupehiwo_load(uint8_t *bytes, size_t nbytes, uint64_t *words,
+                                     size_t nwords, struct tupehiwo_tally *tally,
+                                     struct tupehiwo_order order, const uint8_t *text,
+                                     size_t ntext)
+{
+    const struct tupehiwo_request none = {0, 0, 0, 0, 0, 0};
+    lent.text = text;
+    lent.ntext = ntext;
+    return tupehiwo_perform(bytes, nbytes, words, nwords, tally, order, none);
 }
 
 struct tupehiwo_report tupehiwo_report(const uint8_t *bytes, size_t nbytes,
@@ -125,12 +138,48 @@ static void check_start(struct tupehiwo_monitor *m)
     expect(memcmp(&m->order, &first, sizeof first) == 0, "the order after a refused start");
 }
 
+/* Of a load the monitor keeps the order, but where state or order was refused. */
+static void check_load(struct tupehiwo_monitor *m)
+{
+    const struct tupehiwo_order orders[2] = {{{3, 2}, 2, 1}, {{1}, 1, 0}};
+    const char text[] = "(object 10 driver 0 level 0)\n";
+    for (uint8_t verdict = 0; verdict < 16; verdict++) {
+        int kept = verdict == TUPEHIWO_STATE || verdict == TUPEHIWO_ORDER;
+        m->order = orders[0];
+        lent.verdict = verdict;
+        expect(tupehiwo_monitor_load(m, orders[1], text, sizeof text - 1) == verdict, "load");
+        expect(memcmp(&lent.order, &orders[1], sizeof lent.order) == 0, "a load's order");
+        expect(memcmp(&m->order, &orders[!kept], sizeof m->order) == 0, "order after a load");
+        m->order = lent.order;
+        expect(memory_of(m) && lent.tally == &m->tally, "the memory of a load");
+        expect(lent.text == text && lent.ntext == sizeof text - 1, "the text of a load");
+    }
+}
+
+static void expect_place(const char *text, size_t offset, size_t line, size_t column)
+{
+    struct tupehiwo_place place = tupehiwo_place_of(text, offset);
+    expect(place.line == line && place.column == column, "a place in a text");
+}
+
+static void check_places(void)
+{
+    expect_place("", 0, 1, 1);
+    expect_place("ab\ncd\n", 0, 1, 1);
+    expect_place("ab\ncd\n", 2, 1, 3);
+    expect_place("ab\ncd\n", 3, 2, 1);
+    expect_place("ab\ncd\n", 5, 2, 3);
+    expect_place("ab\ncd\n", 6, 3, 1);
+    expect_place("\n\n\tx", 3, 3, 2);
+}
+
 static void check_words(void)
 {
     static const char *const words[] = {"granted", "slipped", "state",  "order", "number",
                                         "taken",   "driver",  "place",  "held",  "scale",
-                                        "path",    "rule",    "filled", "still", "unknown"};
-    for (uint8_t verdict = 0; verdict < 15; verdict++)
+                                        "path",    "rule",    "filled", "still", "form",
+                                        "deep",    "unknown"};
+    for (uint8_t verdict = 0; verdict < 17; verdict++)
         expect(strcmp(tupehiwo_word(verdict), words[verdict]) == 0, words[verdict]);
     expect(strcmp(tupehiwo_word(256), "unknown") == 0, "the word of 256");
     expect(strcmp(tupehiwo_word((uint64_t)-1), "unknown") == 0, "the word of -1");
@@ -144,6 +193,8 @@ int main(void)
     check_wide_numbers(&m);
     check_spread_and_report(&m);
     check_any_call(&m);
+    check_load(&m);
+    check_places();
     check_words();
     return failures != 0;
 }

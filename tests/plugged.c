@@ -12,6 +12,8 @@
 
 static struct {
     __typeof__(&baseline_perform) perform;
+    __typeof__(&baseline_load) load;
+    __typeof__(&baseline_layout) layout;
     __typeof__(&baseline_report) report;
     __typeof__(&baseline_next_marked) next_marked;
 } monitor;
@@ -38,6 +40,8 @@ __attribute__((constructor)) static void plug(void)
         exit(2);
     }
     find(file, "baseline_perform", &monitor.perform);
+    find(file, "baseline_load", &monitor.load);
+    find(file, "baseline_layout", &monitor.layout);
     find(file, "baseline_report", &monitor.report);
     find(file, "baseline_next_marked", &monitor.next_marked);
 }
@@ -48,6 +52,19 @@ struct tupehiwo_answer tupehiwo_perform(uint8_t *bytes, size_t nbytes, uint64_t 
                                         struct tupehiwo_request request)
 {
     return monitor.perform(bytes, nbytes, words, nwords, tally, order, request);
+}
+
+struct tupehiwo_answer tupehiwo_load(uint8_t *bytes, size_t nbytes, uint64_t *words,
+                                     size_t nwords, struct tupehiwo_tally *tally,
+                                     struct tupehiwo_order order, const uint8_t *text,
+                                     size_t ntext)
+{
+    return monitor.load(bytes, nbytes, words, nwords, tally, order, text, ntext);
+}
+
+struct tupehiwo_checked tupehiwo_layout(const uint8_t *text, size_t ntext)
+{
+    return monitor.layout(text, ntext);
 }
 
 struct tupehiwo_report tupehiwo_report(const uint8_t *bytes, size_t nbytes,

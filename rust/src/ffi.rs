@@ -45,6 +45,14 @@ pub struct Request {
     pub e: u16,
 }
 
+/// Where a text was left, in bytes from its beginning, and a verdict's number.
+#[repr(C)]
+#[derive(Clone, Copy, Debug, PartialEq, Eq)]
+pub struct Checked {
+    pub offset: u32,
+    pub verdict: u8,
+}
+
 /// A bit for each marked number, how many there are, and a verdict's number.
 #[repr(C)]
 #[derive(Clone, Copy, Debug, PartialEq, Eq)]
@@ -70,6 +78,31 @@ unsafe extern "C" {
         order: Order,
         request: Request,
     ) -> Answer;
+
+    /// Begins anew with the layout of a text, and counts that once in the tally.
+    ///
+    /// # Safety
+    ///
+    /// `bytes` and `words` must be valid for reads and writes of `nbytes` bytes
+    /// and `nwords` words, `tally` for a record, and `text` for reads of `ntext`
+    /// bytes; none may overlap another.
+    pub fn tupehiwo_load(
+        bytes: *mut u8,
+        nbytes: usize,
+        words: *mut u64,
+        nwords: usize,
+        tally: *mut Tally,
+        order: Order,
+        text: *const u8,
+        ntext: usize,
+    ) -> Answer;
+
+    /// Tells whether a text is that of a layout, and where it is not.
+    ///
+    /// # Safety
+    ///
+    /// `text` must be valid for reads of `ntext` bytes.
+    pub fn tupehiwo_layout(text: *const u8, ntext: usize) -> Checked;
 
     /// Reports the marked numbers.
     ///
@@ -110,6 +143,36 @@ pub fn perform(
             request,
         )
     }
+}
+
+/// [`tupehiwo_load`] over slices of any length.
+pub fn load(
+    bytes: &mut [u8],
+    words: &mut [u64],
+    tally: &mut Tally,
+    order: Order,
+    text: &[u8],
+) -> Answer {
+    // SAFETY: the pointers are those of slices and a reference lent for change,
+    // which never overlap, and of a slice, with the slices' own lengths.
+    unsafe {
+        tupehiwo_load(
+            bytes.as_mut_ptr(),
+            bytes.len(),
+            words.as_mut_ptr(),
+            words.len(),
+            tally,
+            order,
+            text.as_ptr(),
+            text.len(),
+        )
+    }
+}
+
+/// [`tupehiwo_layout`] over a slice of any length.
+pub fn layout(text: &[u8]) -> Checked {
+    // SAFETY: the pointer is that of a slice, with its own length.
+    unsafe { tupehiwo_layout(text.as_ptr(), text.len()) }
 }
 
 /// [`tupehiwo_report`] over slices of any length.

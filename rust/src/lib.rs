@@ -8,7 +8,7 @@
 //! captured it is *marked* from outside, and a *spread* then marks all that it
 //! may have tainted.
 //!
-//! Load a state, mark, spread, read the list:
+//! Make a state, mark, spread, read the list:
 //!
 //! ```
 //! use tupehiwo::{Monitor, Order, Verdict};
@@ -34,8 +34,12 @@
 //! assert_eq!(monitor.spread().rounds, 1);
 //! assert_eq!(monitor.report().marked().collect::<Vec<_>>(), [1, 2]);
 //! ```
+//!
+//! What an instrument has when it is switched on can stand in a file: see
+//! [`layout`] and [`Monitor::load`].
 
 pub mod ffi;
+pub mod layout;
 mod monitor;
 mod report;
 mod verdict;

@@ -35,13 +35,13 @@ impl Default for Monitor {
 }
 
 impl Monitor {
-    /// Memory of zeros: every call but a start is refused with `State`.
+    /// Memory of zeros: every call but a start or a load is refused with `State`.
     pub fn new() -> Monitor {
         Monitor::from_memory([0; BYTES], [0; WORDS], Tally::default(), Order::default())
     }
 
     /// Goes on with memory that another monitor left, or any other: where it is
-    /// not sound, every call but a start is refused with `State`.
+    /// not sound, every call but a start or a load is refused with `State`.
     ///
     /// ```
     /// use tupehiwo::{Monitor, Order, Verdict};
@@ -76,7 +76,7 @@ impl Monitor {
         self.tally
     }
 
-    /// The order of the last granted start.
+    /// The order of the last start or load that made the state anew.
     pub fn order(&self) -> Order {
         self.order
     }
@@ -98,6 +98,43 @@ impl Monitor {
     pub fn start(&mut self, order: Order) -> Verdict {
         let verdict = self.perform(order, code::START, []).verdict;
         if verdict == Verdict::Granted {
+            self.order = order;
+        }
+        verdict
+    }
+
+    /// Begins anew with a [`layout`](crate::layout) under an order: the core, and
+    /// the tasks and objects of the text.
+    ///
+    /// Refused with `Order` it keeps the memory and the order of before. Refused
+    /// otherwise, for its text or with the verdict of the first call that is
+    /// refused, it leaves the core alone, as a start does, under the new order. It
+    /// counts once in the tally.
+    ///
+    /// ```
+    /// use tupehiwo::{Monitor, Order, Verdict};
+    ///
+    /// let order = Order::new(1, [3, 2]);
+    /// let mut monitor = Monitor::new();
+    ///
+    /// // A drawer of checked images, with one in it, and a task run from that one.
+    /// let text = b"(object 10 driver 0 level 1\n\
+    ///              (object 11 driver 0 level 1))\n\
+    ///              (task 1 image 11 level 1 reads 0)\n";
+    /// assert_eq!(monitor.load(order, text), Verdict::Granted);
+    /// assert_eq!(monitor.mark(1), Verdict::Granted);
+    /// assert_eq!(monitor.tally().granted, 2);
+    ///
+    /// // There is no object 12 that a task could be run from.
+    /// let text = b"(task 1 image 12 level 1 reads 0)\n";
+    /// assert_eq!(monitor.load(order, text), Verdict::Number);
+    /// assert_eq!(monitor.mark(1), Verdict::Number);
+    /// assert_eq!(monitor.mark(0), Verdict::Granted);
+    /// ```
+    pub fn load(&mut self, order: Order, text: &[u8]) -> Verdict {
+        let raw = ffi::load(&mut self.bytes[..], &mut self.words[..], &mut self.tally, order, text);
+        let verdict = verdict(raw.verdict);
+        if !matches!(verdict, Verdict::State | Verdict::Order) {
             self.order = order;
         }
         verdict
@@ -253,6 +290,6 @@ impl Monitor {
     }
 }
 
-fn verdict(number: u8) -> Verdict {
+pub(crate) fn verdict(number: u8) -> Verdict {
     Verdict::from_number(number).expect("the library answers with a verdict of the table")
 }

@@ -1,7 +1,8 @@
 use std::fmt;
 
 /// What a call answers. The refusals stand in the order in which they are
-/// tested: the first that applies is given.
+/// tested, but for `Form` and `Deep`, which come right after `Order`: the first
+/// that applies is given.
 #[must_use = "a refused call has done nothing"]
 #[derive(Clone, Copy, Debug, PartialEq, Eq, PartialOrd, Ord, Hash)]
 #[repr(u8)]
@@ -34,11 +35,15 @@ pub enum Verdict {
     Filled = 12,
     /// A step has nothing to mark.
     Still = 13,
+    /// The text is no layout's, or too long.
+    Form = 14,
+    /// An object lies at a ninth level.
+    Deep = 15,
 }
 
 impl Verdict {
     /// All verdicts, each at the place of its number.
-    pub const ALL: [Verdict; 14] = [
+    pub const ALL: [Verdict; 16] = [
         Verdict::Granted,
         Verdict::Slipped,
         Verdict::State,
@@ -53,9 +58,11 @@ impl Verdict {
         Verdict::Rule,
         Verdict::Filled,
         Verdict::Still,
+        Verdict::Form,
+        Verdict::Deep,
     ];
 
-    /// The verdict of a number; `None` for 14 and more.
+    /// The verdict of a number; `None` for 16 and more.
     pub fn from_number(number: u8) -> Option<Verdict> {
         Verdict::ALL.get(usize::from(number)).copied()
     }
@@ -82,6 +89,8 @@ impl Verdict {
             Verdict::Rule => "rule",
             Verdict::Filled => "filled",
             Verdict::Still => "still",
+            Verdict::Form => "form",
+            Verdict::Deep => "deep",
         }
     }
 }

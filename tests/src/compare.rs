@@ -1,7 +1,10 @@
 //! The library and the model side by side.
 
-use crate::causes::Made;
+use std::fmt;
+
+use crate::causes::{Loaded, Made};
 use crate::model::{BYTES, Lengths, Model, Number, RECORD, State, Thing, WORDS};
+use crate::prefix;
 use crate::table::Table;
 use tupehiwo::ffi::{self, Answer, Order, Report, Request, Tally};
 
@@ -86,6 +89,11 @@ impl Pair {
         self.words[MARGIN + word] >> (to % 64) & 1 == 1
     }
 
+    /// Whether the library left the same bytes and words to both.
+    pub fn has_memory_of(&self, other: &Pair) -> bool {
+        self.bytes == other.bytes && self.words == other.words
+    }
+
     /// How many flows the library has recorded.
     pub fn flows(&self) -> u32 {
         self.words[MARGIN..][..256].iter().map(|word| word.count_ones()).sum()
@@ -108,16 +116,56 @@ impl Pair {
         );
         let expected = self.model.perform(lengths, &order, request);
         if answer != expected {
-            self.differ(&order, request, &format!("answers {answer:?}, model {expected:?}"));
+            self.differ(&order, &request, &format!("answers {answer:?}, model {expected:?}"));
         }
         let made = Made { state: &self.model.state, lengths, order: &order, request };
         self.table.count_call(request.code, answer.verdict, made.cause(answer.verdict));
-        self.compare_memory(&order, request);
-        self.compare_report(lengths, order, request);
+        self.compare_memory(&order, &request);
+        self.compare_report(lengths, order, &request);
         answer
     }
 
-    fn compare_memory(&mut self, order: &Order, request: Request) {
+    /// A load on memory of the right lengths, and a report after it.
+    pub fn load(&mut self, order: Order, text: &[u8]) -> Answer {
+        self.load_with(Lengths::RIGHT, order, text)
+    }
+
+    /// A load that is lent as much as `lengths` say, and a report after it. What the
+    /// library says of the text alone is compared too.
+    pub fn load_with(&mut self, lengths: Lengths, order: Order, text: &[u8]) -> Answer {
+        self.calls += 1;
+        let asked = Text(text);
+        let answer = ffi::load(
+            &mut self.bytes[MARGIN..][..lengths.bytes],
+            &mut self.words[MARGIN..][..lengths.words],
+            &mut self.tally,
+            order,
+            text,
+        );
+        let (expected, ended) = self.model.load(lengths, &order, text);
+        if answer != expected {
+            self.differ(&order, &asked, &format!("answers {answer:?}, model {expected:?}"));
+        }
+        let loaded = Loaded { lengths, order: &order, text, ended };
+        self.table.count_load(answer.verdict, loaded.cause(answer.verdict));
+        self.compare_memory(&order, &asked);
+        self.compare_report(lengths, order, &asked);
+        self.compare_text(&order, text);
+        answer
+    }
+
+    /// What the library says of a text alone, and where.
+    fn compare_text(&self, order: &Order, text: &[u8]) {
+        let checked = ffi::layout(text);
+        let found = prefix::find(text);
+        let expected = (found.verdict as u8, found.offset);
+        if (checked.verdict, checked.offset as usize) != expected {
+            let fault = format!("says {checked:?} of the text, model {expected:?}");
+            self.differ(order, &Text(text), &fault);
+        }
+    }
+
+    fn compare_memory(&mut self, order: &Order, request: &dyn fmt::Debug) {
         if self.tally != self.model.tally {
             let (ours, model) = (self.tally, self.model.tally);
             self.differ(order, request, &format!("tally {ours:?}, model {model:?}"));
@@ -135,7 +183,7 @@ impl Pair {
         }
     }
 
-    fn compare_report(&mut self, lengths: Lengths, order: Order, request: Request) {
+    fn compare_report(&mut self, lengths: Lengths, order: Order, request: &dyn fmt::Debug) {
         let report = self.report_with(lengths, order);
         let expected = self.model.report(lengths, &order);
         if report != expected {
@@ -159,11 +207,21 @@ impl Pair {
         ffi::report(bytes, words, order)
     }
 
-    fn differ(&self, order: &Order, request: Request, fault: &str) -> ! {
+    fn differ(&self, order: &Order, request: &dyn fmt::Debug, fault: &str) -> ! {
         panic!(
             "{}, call {}: the library {fault}\nafter {request:?}\nunder {order:?}",
             self.label, self.calls
         );
+    }
+}
+
+/// A text that was loaded, as a failure shows it.
+struct Text<'a>(&'a [u8]);
+
+impl fmt::Debug for Text<'_> {
+    fn fmt(&self, f: &mut fmt::Formatter<'_>) -> fmt::Result {
+        let shown = &self.0[..self.0.len().min(2000)];
+        write!(f, "the load of {} bytes: {:?}", self.0.len(), String::from_utf8_lossy(shown))
     }
 }
 

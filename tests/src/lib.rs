@@ -3,6 +3,7 @@
 //!
 //! - [`model`]: what each call does, on sets and enums.
 //! - [`script`]: what the script program prints, and [`cases`]: inputs for it.
+//! - [`texts`]: random layouts and their texts, and [`prefix`]: where a text is none.
 //! - [`compare`]: the library and the model side by side, held equal after each call.
 //! - [`author`]: random calls that look at the state, so that each verdict occurs.
 //! - [`worlds`]: random orders and memories, reached from a start or not.
@@ -14,9 +15,11 @@ pub mod cases;
 pub mod causes;
 pub mod compare;
 pub mod model;
+pub mod prefix;
 pub mod rng;
 pub mod script;
 pub mod table;
+pub mod texts;
 pub mod worlds;
 
 use std::env;

@@ -10,9 +10,10 @@ use tupehiwo::ffi::code;
 
 /// The rows of the table: the codes, then what is no code.
 pub const UNKNOWN: usize = 16;
-pub const REPORT: usize = 17;
+pub const LOAD: usize = 17;
+pub const REPORT: usize = 18;
 
-pub const CALLS: [&str; 18] = [
+pub const CALLS: [&str; 19] = [
     "start",
     "read",
     "write",
@@ -30,13 +31,14 @@ pub const CALLS: [&str; 18] = [
     "step",
     "spread",
     "(unknown)",
+    "load",
     "report",
 ];
 
 /// The paper's words, each at the place of its number.
-pub const VERDICTS: [&str; 14] = [
+pub const VERDICTS: [&str; 16] = [
     "granted", "slipped", "state", "order", "number", "taken", "driver", "place", "held", "scale",
-    "path", "rule", "filled", "still",
+    "path", "rule", "filled", "still", "form", "deep",
 ];
 
 /// Which calls can give a verdict, and why no other can.
@@ -47,12 +49,13 @@ struct Possible {
 }
 
 const UNKNOWN_CODE: u16 = UNKNOWN as u16;
+const LOADING: u16 = LOAD as u16;
 
 /// The verdicts that not every call can give; 2 and 3 every call can.
-const POSSIBLE: [Possible; 12] = [
+const POSSIBLE: [Possible; 14] = [
     Possible {
         verdict: 0,
-        calls: &[0, 1, 2, 3, 4, 5, 6, 7, 8, 9, 10, 11, 12, 13, 14, 15, REPORT as u16],
+        calls: &[0, 1, 2, 3, 4, 5, 6, 7, 8, 9, 10, 11, 12, 13, 14, 15, LOADING, REPORT as u16],
         why_no_other: "an unknown code is an unfit number",
     },
     Possible {
@@ -62,18 +65,18 @@ const POSSIBLE: [Possible; 12] = [
     },
     Possible {
         verdict: 4,
-        calls: &[1, 2, 3, 4, 5, 6, 7, 8, 9, 10, 11, 12, 13, 14, UNKNOWN_CODE],
+        calls: &[1, 2, 3, 4, 5, 6, 7, 8, 9, 10, 11, 12, 13, 14, UNKNOWN_CODE, LOADING],
         why_no_other: "it names no number",
     },
     Possible {
         verdict: 5,
-        calls: &[code::EXECUTE, code::CREATE, code::CREATE_ROOT],
+        calls: &[code::EXECUTE, code::CREATE, code::CREATE_ROOT, LOADING],
         why_no_other: "it names no new number",
     },
     Possible {
         verdict: 6,
         calls: &[code::READ, code::WRITE, code::MOVE, code::DELETE],
-        why_no_other: "it does not name a driver with an existing object",
+        why_no_other: "it does not name a driver with an existing object, or names its own",
     },
     Possible {
         verdict: 7,
@@ -83,11 +86,11 @@ const POSSIBLE: [Possible; 12] = [
     Possible {
         verdict: 8,
         calls: &[code::CREATE, code::MOVE, code::DELETE, code::PASS, code::POST, code::FIND],
-        why_no_other: "it needs no recorded access or flow",
+        why_no_other: "it needs no recorded access or flow, or makes it",
     },
     Possible {
         verdict: 9,
-        calls: &[code::EXECUTE, code::CREATE, code::CREATE_ROOT],
+        calls: &[code::EXECUTE, code::CREATE, code::CREATE_ROOT, LOADING],
         why_no_other: "it is given no level",
     },
     Possible { verdict: 10, calls: &[code::READ, code::CALL], why_no_other: "it has no path test" },
@@ -104,11 +107,14 @@ const POSSIBLE: [Possible; 12] = [
             code::INVOKE,
             code::PASS,
             code::POST,
+            LOADING,
         ],
         why_no_other: "it has no level test but the path test, if any",
     },
     Possible { verdict: 12, calls: &[code::DELETE], why_no_other: "it deletes no container" },
     Possible { verdict: 13, calls: &[code::STEP], why_no_other: "it is no step" },
+    Possible { verdict: 14, calls: &[LOADING], why_no_other: "it reads no text" },
+    Possible { verdict: 15, calls: &[LOADING], why_no_other: "it reads no text" },
 ];
 
 /// Why a call cannot give a verdict, or `None` if it can.
@@ -128,6 +134,11 @@ impl Table {
     pub fn count_call(&mut self, code: u16, verdict: u8, cause: Option<Cause>) {
         let call = usize::from(code).min(UNKNOWN);
         self.counts[call][usize::from(verdict)] += 1;
+        cause.into_iter().for_each(|cause| self.causes.count(cause));
+    }
+
+    pub fn count_load(&mut self, verdict: u8, cause: Option<Cause>) {
+        self.counts[LOAD][usize::from(verdict)] += 1;
         cause.into_iter().for_each(|cause| self.causes.count(cause));
     }
 

@@ -9,7 +9,7 @@ use tupehiwo_tests::model::{Lengths, Mark, Model, Number, Object, Pairs, State, 
 use tupehiwo_tests::request;
 use tupehiwo_tests::rng::{Rng, seed};
 use tupehiwo_tests::table::{Table, sum_of};
-use tupehiwo_tests::worlds;
+use tupehiwo_tests::{texts, worlds};
 
 /// How often all codes are gone through.
 const TURNS: u64 = 10;
@@ -197,12 +197,41 @@ fn nearly_granted(seed: u64, code: u16) -> Table {
     pair.table
 }
 
+/// How many texts are loaded in a turn.
+const TEXTS: usize = 4000;
+
+/// Loads, each granted or nearly so.
+fn nearly_loaded(seed: u64) -> Table {
+    let mut rng = Rng::new(seed);
+    let mut pair = Pair::new(format!("loads from the seed {seed}"));
+    for _ in 0..TEXTS {
+        let order = worlds::order(&mut rng);
+        let most = rng.pick(&[1, 2, 4, 8, 16, 30]);
+        let mut text = texts::written(&texts::granted(&mut rng, &order, most));
+        let (mut lengths, mut lent) = (Lengths::RIGHT, order);
+        match rng.below(12) {
+            0..5 => texts::change_number(&mut rng, &order, &mut text),
+            5 | 6 => texts::change_driver(&mut rng, &mut text),
+            7 => text = texts::any(&mut rng, &order),
+            8 => lent = worlds::other_order(&mut rng, order),
+            9 => lengths = worlds::lengths(&mut rng),
+            _ => texts::damage(&mut rng, &mut text),
+        }
+        pair.load_with(lengths, lent, &text);
+    }
+    pair.table
+}
+
 #[test]
 fn every_cause_occurs() {
     let first = seed("every_cause_occurs");
     let codes = u64::from(code::SPREAD) + 2;
-    let table = sum_of(0..TURNS * codes, |number| {
-        nearly_granted(first.wrapping_add(number), (number % codes) as u16)
+    let table = sum_of(0..TURNS * (codes + 1), |number| {
+        let seed = first.wrapping_add(number);
+        match number % (codes + 1) {
+            code if code < codes => nearly_granted(seed, code as u16),
+            _ => nearly_loaded(seed),
+        }
     });
     let causes = &table.causes;
     println!("{} calls on memory that nearly fits\n{table}", table.calls());

@@ -1,12 +1,12 @@
 //! The safe Rust face: each method makes the call that it names.
 
 use tupehiwo::ffi::{Order, Request, code};
-use tupehiwo::{Answer, Monitor, Verdict};
+use tupehiwo::{Answer, Monitor, Verdict, layout};
 use tupehiwo_tests::author::Author;
 use tupehiwo_tests::model::{BYTES, Lengths, Model, State, WORDS};
 use tupehiwo_tests::rng::{Rng, seed};
 use tupehiwo_tests::table::VERDICTS;
-use tupehiwo_tests::worlds;
+use tupehiwo_tests::{prefix, texts, worlds};
 
 /// The method of a request.
 fn by_method(monitor: &mut Monitor, order: Order, request: Request) -> Answer {
@@ -80,6 +80,60 @@ fn each_method_makes_its_call() {
     }
 }
 
+/// A load is the model's, and so is the order that the monitor keeps of it.
+#[test]
+fn a_load_makes_its_state() {
+    let mut rng = Rng::new(seed("a_load_makes_its_state"));
+    let mut monitor = Monitor::new();
+    let mut order = Order::default();
+    let state = State::read(monitor.bytes(), monitor.words());
+    let mut model = Model { state, tally: monitor.tally() };
+    for _ in 0..2000 {
+        let usual = worlds::order(&mut rng);
+        let failing = rng.once_in(4);
+        let lent = if failing { worlds::other_order(&mut rng, usual) } else { usual };
+        let text = texts::any(&mut rng, &usual);
+        let verdict = monitor.load(lent, &text);
+        assert_eq!(verdict as u8, model.load(Lengths::RIGHT, &lent, &text).0.verdict);
+        if ![Verdict::State, Verdict::Order].contains(&verdict) {
+            order = lent;
+        }
+        must_agree(&monitor, &model, &order);
+    }
+}
+
+/// The line and column of an offset, counted by the lines before it.
+fn place_of(text: &[u8], offset: usize) -> (usize, usize) {
+    let lines: Vec<&[u8]> = text[..offset].split(|&byte| byte == b'\n').collect();
+    (lines.len(), 1 + lines[lines.len() - 1].len())
+}
+
+#[test]
+fn a_text_is_checked() {
+    let mut rng = Rng::new(seed("a_text_is_checked"));
+    let mut faults = [0; 2];
+    for _ in 0..4000 {
+        let order = worlds::order(&mut rng);
+        let text = texts::any(&mut rng, &order);
+        let found = prefix::find(&text);
+        match layout::check(&text) {
+            Ok(()) => assert_eq!(found.verdict as u8, Verdict::Granted as u8),
+            Err(fault) => {
+                assert_eq!(
+                    (fault.verdict as u8, fault.offset),
+                    (found.verdict as u8, found.offset)
+                );
+                assert_eq!((fault.line, fault.column), place_of(&text, fault.offset));
+                let (line, column) = (fault.line, fault.column);
+                let said = format!("{}, line {line}, column {column}", fault.verdict);
+                assert_eq!(fault.to_string(), said);
+                faults[usize::from(fault.verdict == Verdict::Deep)] += 1;
+            }
+        }
+    }
+    assert!(faults.iter().all(|&count| count > 100), "{faults:?}");
+}
+
 #[test]
 fn memory_can_be_handed_on() {
     let mut first = Monitor::new();
@@ -100,5 +154,5 @@ fn verdicts_have_their_numbers_and_words() {
         assert_eq!(verdict.to_string(), word);
         assert_eq!(verdict.is_done(), number < 2);
     }
-    assert_eq!(Verdict::from_number(14), None);
+    assert_eq!(Verdict::from_number(16), None);
 }

@@ -9,20 +9,22 @@ use tupehiwo_tests::model::{Lengths, Model, Number, State, at_or_below};
 use tupehiwo_tests::request;
 use tupehiwo_tests::rng::{Rng, seed};
 use tupehiwo_tests::table::{Table, sum_of};
-use tupehiwo_tests::worlds;
+use tupehiwo_tests::{texts, worlds};
 
 const LISTS: u64 = 1200;
 const CALLS_OF_A_LIST: usize = 900;
+/// Loads, as starts, are rare, so that worlds grow.
+const ONE_LOAD_OF: usize = 300;
 const MEMORIES: u64 = 8000;
 const CALLS_ON_A_MEMORY: usize = 12;
 
-/// A list that begins with a granted start, and what it must be judged by.
+/// A list that begins with a granted start or a load, and what it must be judged by.
 struct List {
     rng: Rng,
     pair: Pair,
-    /// That of the last granted start.
+    /// That of the last granted start, or load past state and order.
     order: Order,
-    /// The tasks that a granted mark named since that start.
+    /// The tasks that a granted mark named since then.
     outside: BTreeSet<Number>,
     pool: Vec<Number>,
 }
@@ -39,11 +41,20 @@ impl List {
         }
         let pool = pool(&mut rng);
         let mut list = List { rng, pair, order, outside: BTreeSet::new(), pool };
-        list.perform(Lengths::RIGHT, order, Request::default());
+        if list.rng.once_in(3) {
+            list.load(Lengths::RIGHT, order);
+        } else {
+            list.perform(Lengths::RIGHT, order, Request::default());
+        }
         list
     }
 
     fn one_call(&mut self) {
+        if self.rng.once_in(ONE_LOAD_OF) {
+            let order = self.order_of_a_new_state();
+            let lengths = worlds::lengths(&mut self.rng);
+            return self.load(lengths, order);
+        }
         let mut author = Author {
             rng: &mut self.rng,
             state: &self.pair.model.state,
@@ -67,14 +78,30 @@ impl List {
         }
     }
 
+    /// A load past state and order makes the state of a start, refused or not.
+    fn load(&mut self, lengths: Lengths, order: Order) {
+        let text = texts::any(&mut self.rng, &self.order);
+        if ![2, 3].contains(&self.pair.load_with(lengths, order, &text).verdict) {
+            self.order = order;
+            self.outside.clear();
+        }
+    }
+
+    fn order_of_a_new_state(&mut self) -> Order {
+        let other = worlds::other_order(&mut self.rng, self.order);
+        if self.rng.once_in(2) { other } else { self.order }
+    }
+
     /// Starts may have any order, others only where it makes no difference to the
     /// list: a call performed under another order would leave the lists of the paper.
     fn order_for(&mut self, request: Request) -> Order {
-        let starting = request.code == code::START;
-        let wanted = self.rng.once_in(if starting { 2 } else { 25 });
+        if request.code == code::START {
+            return self.order_of_a_new_state();
+        }
         let other = worlds::other_order(&mut self.rng, self.order);
         let model = &self.pair.model;
-        if wanted && (starting || is_refused(model, &other, request)) { other } else { self.order }
+        let wanted = self.rng.once_in(25) && is_refused(model, &other, request);
+        if wanted { other } else { self.order }
     }
 
     /// The two limits on levels, which every state of a list keeps.
@@ -151,6 +178,11 @@ fn calls_on_one_memory(seed: u64, pool: &[Number], unreached: &mut Unreached) ->
         }
         let other = rng.once_in(6);
         let order = if other { worlds::other_order(&mut rng, usual) } else { usual };
+        if rng.once_in(15) {
+            let text = texts::any(&mut rng, &usual);
+            pair.load_with(worlds::lengths(&mut rng), order, &text);
+            continue;
+        }
         let starting = rng.once_in(30);
         let state = &pair.model.state;
         let mut author = Author { rng: &mut rng, state, order: &order, pool };

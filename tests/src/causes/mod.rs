@@ -5,9 +5,11 @@
 //! table: a monitor without that one test would have answered otherwise.
 
 mod events;
+mod loads;
 mod memory;
 mod numbers;
 
+pub use loads::Loaded;
 pub use numbers::how_many;
 
 use std::collections::{BTreeMap, BTreeSet};
@@ -25,12 +27,16 @@ pub struct Cause {
     pub verdict: u8,
     /// A row of the table of calls; `None` where it is the same for all of them.
     pub call: Option<usize>,
+    /// Whether a load gave this verdict: the call is then the one of its layout that
+    /// was refused, and `None` where it came to none.
+    pub loading: bool,
     pub reason: Reason,
 }
 
 impl fmt::Display for Cause {
     fn fmt(&self, f: &mut fmt::Formatter<'_>) -> fmt::Result {
         let call = self.call.map_or("any call", |call| CALLS[call]);
+        let call = if self.loading { format!("load, {call}") } else { call.to_string() };
         let (what, how) = self.reason;
         write!(f, "{call}, {}: {what}, {how}", VERDICTS[usize::from(self.verdict)])
     }
@@ -56,7 +62,7 @@ impl Made<'_> {
             4 | 5 | 9 => (call, numbers::cause(self, verdict)?),
             _ => (call, events::cause(self, verdict)?),
         };
-        Some(Cause { verdict, call, reason })
+        Some(Cause { verdict, call, loading: false, reason })
     }
 
     fn arguments(&self) -> [u16; 5] {
@@ -76,7 +82,10 @@ pub fn all() -> BTreeSet<Cause> {
     let of_calls = numbers::all().into_iter().chain(events::all());
     let of_calls = of_calls.map(|(verdict, code, reason)| (verdict, Some(code.into()), reason));
     let causes = memory.chain(orders).chain(of_calls);
-    causes.map(|(verdict, call, reason)| Cause { verdict, call, reason }).collect()
+    let cause = |(verdict, call, reason)| Cause { verdict, call, loading: false, reason };
+    let mut all: BTreeSet<Cause> = causes.map(cause).collect();
+    all.extend(loads::all());
+    all
 }
 
 /// How often each cause occurred.

@@ -1,10 +1,12 @@
 //! The paper's rules, on sets and enums instead of bytes and words.
 
 mod events;
+mod layout;
 mod marks;
 mod order;
 mod state;
 
+pub use layout::{Drawer, Form, LAYOUT_BYTES, LAYOUT_DEPTH, calls, read_layout, written};
 pub use order::{at_or_below, passes};
 pub use state::{BYTES, Mark, Number, Object, Pairs, RECORD, State, THINGS, Task, Thing, WORDS};
 
@@ -29,6 +31,8 @@ pub enum Verdict {
     Rule = 11,
     Filled = 12,
     Still = 13,
+    Form = 14,
+    Deep = 15,
 }
 
 /// `Ok` if the call is performed (granted or slipped), `Err` if it is refused.
@@ -44,6 +48,9 @@ pub struct Lengths {
 impl Lengths {
     pub const RIGHT: Lengths = Lengths { bytes: BYTES, words: WORDS };
 }
+
+/// A refused call, on the state that it met.
+pub type Ended = Option<(State, Request)>;
 
 #[derive(Clone, Debug, PartialEq, Eq)]
 pub struct Model {
@@ -65,6 +72,35 @@ impl Model {
         };
         self.count(answer.verdict);
         answer
+    }
+
+    /// Begins anew with the layout of a text, and counts that once. `Ended` is the
+    /// call of the layout that was refused, if one was.
+    pub fn load(&mut self, lengths: Lengths, order: &Order, text: &[u8]) -> (Answer, Ended) {
+        let fit = self.fit(lengths, order, true);
+        let mut ended = None;
+        let outcome = fit.and_then(|()| {
+            self.state = State::started(order.top);
+            self.lay_out(order, text, &mut ended)
+        });
+        if fit.is_ok() && outcome.is_err() {
+            self.state = State::started(order.top);
+        }
+        let answer = answer(outcome);
+        self.count(answer.verdict);
+        (answer, ended)
+    }
+
+    /// The calls of a layout, one after the other, up to the first that is refused.
+    fn lay_out(&mut self, order: &Order, text: &[u8], ended: &mut Ended) -> Outcome {
+        for call in calls(&read_layout(text)?) {
+            let outcome = self.dispatch(order, call);
+            if outcome.is_err() {
+                *ended = Some((self.state.clone(), call));
+                return outcome;
+            }
+        }
+        Ok(Verdict::Granted)
     }
 
     /// The marked numbers; it counts nowhere.

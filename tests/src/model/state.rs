@@ -244,7 +244,7 @@ impl State {
 
 fn read_pairs(rows: &[u64]) -> Pairs {
     let mut pairs = Pairs::new();
-    for (w, &word) in (0..).zip(rows) {
+    for (w, &word) in (0..).zip(rows).filter(|(_, word)| **word != 0) {
         let columns = (0..64).filter(|bit| word & (1 << bit) != 0);
         pairs.extend(columns.map(|bit| (w / 2, w % 2 * 64 + bit)));
     }

@@ -1,0 +1,1 @@
+/^static inline uint8_t tupehiwo_monitor_load(/,/^}/s/if (answer.verdict != TUPEHIWO_STATE \&\& answer.verdict != TUPEHIWO_ORDER)/if (1)/

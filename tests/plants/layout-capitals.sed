@@ -1,0 +1,1 @@
+s/\*r->at != (uint8_t)\*word/(*r->at ^ (uint8_t)*word) \& ~32/

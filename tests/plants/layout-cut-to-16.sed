@@ -1,0 +1,1 @@
+s/ntext > TUPEHIWO_LAYOUT_BYTES/(uint16_t)ntext > TUPEHIWO_LAYOUT_BYTES/

@@ -1,0 +1,1 @@
+s/checked_at(TUPEHIWO_LAYOUT_BYTES, TUPEHIWO_FORM)/checked_at(ntext, TUPEHIWO_FORM)/

@@ -1,0 +1,1 @@
+s/form->task = r->open == 0 \&\& /form->task = /

@@ -1,0 +1,1 @@
+/^static uint8_t lay_out(/,/^}/s/holding\[form.depth\]/holding[form.depth > 0]/

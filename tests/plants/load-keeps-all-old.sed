@@ -1,0 +1,1 @@
+/^struct tupehiwo_answer baseline_load(/,/^}/s/^        start(&s);/        struct tupehiwo_monitor old;\n        memcpy(old.bytes, bytes, nbytes);\n&/;/^struct tupehiwo_answer baseline_load(/,/^}/s/^                start(&s);/                memcpy(bytes, old.bytes, nbytes);/

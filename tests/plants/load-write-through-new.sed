@@ -1,0 +1,1 @@
+/^static uint8_t lay_object(/,/^}/s/through = field(s, container, DRIVER)/through = form->driver/
