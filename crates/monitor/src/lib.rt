@@ -9,7 +9,8 @@ ghost use Rattle.model.specs.Events.{left};
 ghost use Rattle.model.specs.Monitor as model;
 ghost use Rattle.model.specs.Monitor.{raised, oneMore, started, nextMarked};
 ghost use Rattle.model.specs.Load as loads;
-ghost use Rattle.model.specs.Load.{layoutChecked};
+ghost use Rattle.model.specs.Load.{inTurn, whole, layoutChecked};
+ghost use Rattle.loading.specs.Calls.{callsIn};
 ghost use Rattle.monitor.specs.Request.{callOf};
 use layout::Text;
 use levels::Order;
@@ -268,6 +269,36 @@ pub extern "C" fn tupehiwo_perform(
     let done = perform_request(bytes, words, before, order, request);
     *tally = done.tally;
     done.answer
+}
+
+// The calls of a layout's text on the state of a start, which is left again if one of them is refused.
+fn make(bytes: &mut [u8], words: &mut [u64], order: Order, text: &[u8]) -> u8
+    requires { ⌜ Ready order (now bytes) (now words) ⌝ }
+    ensures { λ r. ⌜ left r 0 (now (bytes .exit)) (now (words .exit)) ≡ whole order (inTurn order (callsIn (now (text .entry))) (memory (now (bytes .entry)) (now (words .entry)))) ⌝ }
+{
+    let verdict = loading::lay_out(bytes, words, order, text);
+    if verdict > model::SLIPPED {
+        set_up(bytes, words, order);
+    }
+    verdict
+}
+
+// A load tests lengths and the order only, as a start does, and then the text: its form, its depth, and its calls.
+fn load(bytes: &mut [u8], words: &mut [u64], order: Order, text: &[u8]) -> u8
+    ensures { λ r. ⌜ left r 0 (now (bytes .exit)) (now (words .exit)) ≡ loads.load order (memory (now (bytes .entry)) (now (words .entry))) (now (text .entry)) ⌝ }
+{
+    if !lengths_fit(bytes, words) {
+        return model::STATE;
+    }
+    if !levels::order_passes(order) {
+        return model::ORDER;
+    }
+    set_up(bytes, words, order);
+    match layout::check(text) {
+        Text::Fits => make(bytes, words, order, text),
+        Text::Broken { at: _ } => model::FORM,
+        Text::Deep { at: _ } => model::DEEP,
+    }
 }
 
 // A whole load, with the tally by value.
