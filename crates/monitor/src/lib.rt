@@ -253,7 +253,7 @@ pub fn perform_request(
     perform(bytes, words, tally, order, call)
 }
 
-// The one thin function over the lent tally, and what C and Rust call.
+// The thin function over the lent tally, and what C and Rust call.
 #[no_mangle]
 pub extern "C" fn tupehiwo_perform(
     bytes: &mut [u8],
@@ -283,17 +283,14 @@ fn make(bytes: &mut [u8], words: &mut [u64], order: Order, text: &[u8]) -> u8
     verdict
 }
 
-// A load tests lengths and the order only, as a start does, and then the text: its form, its depth, and its calls.
+// A load is a start, and then the text: its form, its depth, and its calls.
 fn load(bytes: &mut [u8], words: &mut [u64], order: Order, text: &[u8]) -> u8
     ensures { λ r. ⌜ left r 0 (now (bytes .exit)) (now (words .exit)) ≡ loads.load order (memory (now (bytes .entry)) (now (words .entry))) (now (text .entry)) ⌝ }
 {
-    if !lengths_fit(bytes, words) {
-        return model::STATE;
+    let begun = start(bytes, words, order);
+    if begun > model::SLIPPED {
+        return begun;
     }
-    if !levels::order_passes(order) {
-        return model::ORDER;
-    }
-    set_up(bytes, words, order);
     match layout::check(text) {
         Text::Fits => make(bytes, words, order, text),
         Text::Broken { at: _ } => model::FORM,
@@ -301,7 +298,7 @@ fn load(bytes: &mut [u8], words: &mut [u64], order: Order, text: &[u8]) -> u8
     }
 }
 
-// A whole load, with the tally by value.
+// A whole load, with the tally by value: it counts once.
 pub fn load_counted(
     bytes: &mut [u8],
     words: &mut [u64],
@@ -313,14 +310,13 @@ pub fn load_counted(
         × (r .tally ≡ raised tally (loads.load order (memory (now (bytes .entry)) (now (words .entry))) (now (text .entry)) .verdict)) ⌝ }
 {
     let verdict = load(bytes, words, order, text);
-    let next = count(tally, verdict);
     Counted {
         answer: plain(verdict),
-        tally: next,
+        tally: count(tally, verdict),
     }
 }
 
-// A load, as C and Rust call it.
+// A load over the lent tally: as C and Rust call it.
 #[no_mangle]
 pub extern "C" fn tupehiwo_load(
     bytes: &mut [u8],
@@ -338,7 +334,7 @@ pub extern "C" fn tupehiwo_load(
     done.answer
 }
 
-// Where a text is refused before any call, as C and Rust call it.
+// What a load would answer to a text before any call, with the place of the fault: as C and Rust call it.
 #[no_mangle]
 pub extern "C" fn tupehiwo_layout(text: &[u8]) -> Checked
     ensures { λ r. ⌜ r ≡ layoutChecked (now (text .entry)) ⌝ }
