@@ -1,21 +1,25 @@
--- The claims of demand 3, each a short definition, for a state of either size; the proofs stand in Proved.antt.
+-- The claims of demand 3 and those about loads, each a short definition, for a state of either size; the proofs stand in Proved.antt.
 -- Assumes nothing.
 use mathlib.Core.Path.{_≡_}
-use mathlib.Core.Bool.{true, false}
+use mathlib.Core.Bool.{Bool, true, false, _||_}
 use mathlib.Core.Logic.{_⊎_, _↔_}
-use mathlib.Core.List.{List, List·Memᴰ}
-use Prim.Native.Nat.{ℕ, _<_}
+use mathlib.Core.List.{List, [], _∷_, map, List·Memᴰ}
+use Prim.Native.Nat.{ℕ, _≤_, _<_}
+use lib.Dec.{eqb}
+use lib.ListN.{length}
 use Rattle.rows.specs.Size.{Size, numbersOf}
 use Rattle.levels.specs.declared.Order.{Order}
 use Rattle.levels.specs.Order.{atOrBelow, orderPasses}
 use Rattle.records.specs.Records.{recordSize, field, soundOf}
+use Rattle.layout.specs.Layout.{Layout, Fits, depth, mostDeep, written, mostBytes}
 use Rattle.model.specs.declared.Call.{Call}
 use Rattle.model.specs.declared.Call.the-variants.{Start, Mark, Spread}
-use Rattle.model.specs.Verdicts.{granted, isDone, row-state}
+use Rattle.model.specs.Verdicts.{granted, isDone, row-state, row-order, row-number, row-taken, row-scale, row-rule, row-form, row-deep}
 use Rattle.model.specs.State.{MemoryOf, lengthsFit, inUse, task, object, levelOf, driverOf, marked, hasFlow, hasRead, hasWrite}
 use Rattle.model.specs.Spread.{marksSome}
-use Rattle.model.specs.Monitor.{perform}
-use Rattle.containment.specs.Lists.{Item, lent, StandingOf, run, Admissible, begun}
+use Rattle.model.specs.Monitor.{started, perform}
+use Rattle.model.specs.Load.{layoutCalls, inTurn, load, pastOrder}
+use Rattle.containment.specs.Lists.{Item, asks, loads, lent, StandingOf, next, run, Admissible, begun, Begins}
 use Rattle.containment.specs.Chains.{Chain}
 
 -- ---- the limits on levels
@@ -34,20 +38,19 @@ pub record Contained {size : Size} (s : StandingOf size) : Type 0 where
   pub flows-end : (x y : ℕ) → x < numbersOf size → y < numbersOf size → hasFlow (s .memory) x y ≡ true
       → (atOrBelow (s .order) (levelOf (s .memory) y) (levelOf (s .memory) x) ≡ true) ⊎ Covered s (levelOf (s .memory) y)
 
--- a list begun by a granted start: the memory before it may hold anything
-pub record Reached {size : Size} (o : Order) (m : MemoryOf size) (is : List Item) : Type 0 where
-  pub granted-start : perform o m Start .verdict ≡ granted
-  pub admissible : Admissible is (begun o m)
+-- a list begun by a granted start, or by a load past row 3, which counts as one: the memory before it may hold anything
+pub record Reached {size : Size} (b : Item) (m : MemoryOf size) (is : List Item) : Type 0 where
+  pub beginning : Begins m b
+  pub admissible : Admissible is (begun b m)
 
 -- demand 3, both limits on levels: one claim about the list as a whole
 abbrev pub Containment : Type 0
-Containment = (size : Size) (o : Order) (m : MemoryOf size) (is : List Item) → Reached o m is → Contained (run is (begun o m))
+Containment = (size : Size) (b : Item) (m : MemoryOf size) (is : List Item) → Reached b m is → Contained (run is (begun b m))
 
 -- ---- what a list leaves is settled by its calls alone
 
 abbrev pub Determined : Type 0
-Determined = (size : Size) (o : Order) (m n : MemoryOf size) (is : List Item) → perform o m Start .verdict ≡ granted → perform o n Start .verdict ≡ granted
-    → run is (begun o m) ≡ run is (begun o n)
+Determined = (size : Size) (b : Item) (m n : MemoryOf size) (is : List Item) → Begins m b → Begins n b → run is (begun b m) ≡ run is (begun b n)
 
 -- ---- every granted spread, on any state, marks exactly what chains reach
 
@@ -68,8 +71,8 @@ SpreadExact = (size : Size) (o : Order) (m : MemoryOf size) → perform o m Spre
 -- ---- a repeated mark changes only the tally
 
 abbrev pub RepeatedMark : Type 0
-RepeatedMark = (size : Size) (o : Order) (m : MemoryOf size) (is : List Item) → Reached o m is → (e : ℕ) → List·Memᴰ e (run is (begun o m) .outside)
-    → perform (run is (begun o m) .order) (run is (begun o m) .memory) (Mark e) ≡ record { verdict = granted; rounds = 0; memory = run is (begun o m) .memory }
+RepeatedMark = (size : Size) (b : Item) (m : MemoryOf size) (is : List Item) → Reached b m is → (e : ℕ) → List·Memᴰ e (run is (begun b m) .outside)
+    → perform (run is (begun b m) .order) (run is (begun b m) .memory) (Mark e) ≡ record { verdict = granted; rounds = 0; memory = run is (begun b m) .memory }
 
 -- ---- soundness is kept
 
@@ -78,10 +81,67 @@ abbrev pub LeavesSound : Type 0
 LeavesSound = (size : Size) (o : Order) (m : MemoryOf size) (c : Call) → isDone (perform o m c .verdict) ≡ true
     → (lengthsFit (perform o m c .memory) ≡ true) × (soundOf size o (perform o m c .memory .bytes) ≡ true)
 
--- so no call of a list is refused with 2 under the last granted start's order
+-- so does every load past row 3, granted or not
+abbrev pub LoadsSound : Type 0
+LoadsSound = (size : Size) (o : Order) (m : MemoryOf size) (t : List ℕ) → pastOrder (load o m t .verdict) ≡ true
+    → (lengthsFit (load o m t .memory) ≡ true) × (soundOf size o (load o m t .memory .bytes) ≡ true)
+
+-- so no call and no load of a list is refused with 2 under the last granted start's order
 abbrev pub NeverUnsound : Type 0
-NeverUnsound = (size : Size) (o : Order) (m : MemoryOf size) (is : List Item) → Reached o m is
-    → (c : Call) → perform (run is (begun o m) .order) (run is (begun o m) .memory) c .verdict ≡ row-state → ⊥
+NeverUnsound = (size : Size) (b : Item) (m : MemoryOf size) (is : List Item) → Reached b m is
+    → ((c : Call) → perform (run is (begun b m) .order) (run is (begun b m) .memory) c .verdict ≡ row-state → ⊥)
+    × ((t : List ℕ) → load (run is (begun b m) .order) (run is (begun b m) .memory) t .verdict ≡ row-state → ⊥)
+
+-- ---- loads
+
+-- the numbers that the calls of a layout give: nothing being marked, none slips
+unfoldable pub layoutGives : ℕ → Bool
+layoutGives v = eqb v granted || eqb v row-number || eqb v row-taken || eqb v row-scale || eqb v row-rule
+
+module _ {size : Size} (o : Order) where
+  -- each gives one of these, up to the first that is refused, and so does that one
+  unfoldable pub GiveThese : List Call → MemoryOf size → Type 0
+  GiveThese [] m = Unit {0}
+  GiveThese (c ∷ cs) m = (layoutGives (perform o m c .verdict) ≡ true) × (isDone (perform o m c .verdict) ≡ true → GiveThese cs (perform o m c .memory))
+
+  -- each is granted
+  unfoldable pub AllGranted : List Call → MemoryOf size → Type 0
+  AllGranted [] m = Unit {0}
+  AllGranted (c ∷ cs) m = (perform o m c .verdict ≡ granted) × AllGranted cs (perform o m c .memory)
+
+abbrev pub LayoutGives : Type 0
+LayoutGives = (size : Size) (o : Order) → orderPasses o ≡ true → (f : Layout) → GiveThese {size = size} o (layoutCalls f) (started o)
+
+-- so a load's verdict is one of these, 2, 3, 14 or 15
+abbrev pub LoadGives : Type 0
+LoadGives = (size : Size) (o : Order) (m : MemoryOf size) (t : List ℕ)
+    → let v = load o m t .verdict in (layoutGives v || eqb v row-state || eqb v row-order || eqb v row-form || eqb v row-deep) ≡ true
+
+-- "The result is that of a start and then these calls, in file order": the text is that of a layout whose calls are all granted after a start, and leave
+-- what the load leaves
+pub record AsCalls {size : Size} (o : Order) (m : MemoryOf size) (t : List ℕ) : Type 0 where
+  pub layout : Layout
+  pub text : written layout ≡ t
+  pub start-granted : perform o m Start .verdict ≡ granted
+  pub all-granted : AllGranted o (layoutCalls layout) (perform o m Start .memory)
+  pub leaves-same : begun (loads o t) m ≡ run (map (asks o) (layoutCalls layout)) (begun (asks o Start) m)
+
+abbrev pub LoadIsList : Type 0
+LoadIsList = (size : Size) (o : Order) (m : MemoryOf size) (t : List ℕ) → load o m t .verdict ≡ granted → AsCalls o m t
+
+-- and the load of a layout's text gives what its calls give in turn after a start: 0, or the number of the first that is refused
+abbrev pub LoadTells : Type 0
+LoadTells = (size : Size) (o : Order) (m : MemoryOf size) (f : Layout) → lengthsFit m ≡ true → orderPasses o ≡ true → Fits f → depth f ≤ mostDeep → length (written f) ≤ mostBytes
+    → load o m (written f) .verdict ≡ inTurn o (layoutCalls f) (perform o m Start .memory) .verdict
+
+-- a load refused past row 3 leaves the state of a start, "the one exception for refused calls"
+abbrev pub RefusedLoad : Type 0
+RefusedLoad = (size : Size) (o : Order) (m : MemoryOf size) (t : List ℕ) → pastOrder (load o m t .verdict) ≡ true → isDone (load o m t .verdict) ≡ false
+    → begun (loads o t) m ≡ begun (asks o Start) m
+
+-- and one refused with 2 or 3 leaves all as it was
+abbrev pub UntouchedByLoad : Type 0
+UntouchedByLoad = (size : Size) (o : Order) (t : List ℕ) (s : StandingOf size) → pastOrder (load o (s .memory) t .verdict) ≡ false → next (loads o t) s ≡ s
 
 -- ---- free numbers
 
@@ -91,8 +151,8 @@ Unrecorded m x y = (hasFlow m x y ≡ false) × (hasRead m x y ≡ false) × (ha
 
 -- of a number that is not in use nothing is recorded, in either direction: given out anew, it keeps nothing of an earlier use
 abbrev pub FreeBare : Type 0
-FreeBare = (size : Size) (o : Order) (m : MemoryOf size) (is : List Item) → Reached o m is → (x y : ℕ) → x < numbersOf size → y < numbersOf size → inUse (run is (begun o m) .memory) x ≡ false
-    → Unrecorded (run is (begun o m) .memory) x y × Unrecorded (run is (begun o m) .memory) y x
+FreeBare = (size : Size) (b : Item) (m : MemoryOf size) (is : List Item) → Reached b m is → (x y : ℕ) → x < numbersOf size → y < numbersOf size → inUse (run is (begun b m) .memory) x ≡ false
+    → Unrecorded (run is (begun b m) .memory) x y × Unrecorded (run is (begun b m) .memory) y x
 
 -- ---- objects and their drivers
 
@@ -102,7 +162,7 @@ UnderDrivers {size} s = (x : ℕ) → x < numbersOf size → object (s .memory) 
 
 -- so "only bytes not reached from a start, or an order other than that start's, can break" read's rule L(o) ≤ L(d)
 abbrev pub DriversAbove : Type 0
-DriversAbove = (size : Size) (o : Order) (m : MemoryOf size) (is : List Item) → Reached o m is → UnderDrivers (run is (begun o m))
+DriversAbove = (size : Size) (b : Item) (m : MemoryOf size) (is : List Item) → Reached b m is → UnderDrivers (run is (begun b m))
 
 -- ---- no claim is empty
 
@@ -110,25 +170,29 @@ DriversAbove = (size : Size) (o : Order) (m : MemoryOf size) (is : List Item) �
 abbrev pub StartGranted : Type 0
 StartGranted = (size : Size) (o : Order) (m : MemoryOf size) → lengthsFit m ≡ true → orderPasses o ≡ true → perform o m Start .verdict ≡ granted
 
--- any calls and reports at all may follow a granted start, if each is lent that start's order
+-- so such a start begins lists, and so does every load there
+abbrev pub ListsBegin : Type 0
+ListsBegin = (size : Size) (o : Order) (m : MemoryOf size) → lengthsFit m ≡ true → orderPasses o ≡ true → Begins m (asks o Start) × ((t : List ℕ) → Begins m (loads o t))
+
+-- any calls, reports and loads at all may follow what begins a list, if each is lent its order
 abbrev pub OwnOrderReached : Type 0
-OwnOrderReached = (size : Size) (o : Order) (m : MemoryOf size) (is : List Item) → perform o m Start .verdict ≡ granted → ((i : Item) → List·Memᴰ i is → lent i ≡ o) → Reached o m is
+OwnOrderReached = (size : Size) (b : Item) (m : MemoryOf size) (is : List Item) → Begins m b → ((i : Item) → List·Memᴰ i is → lent i ≡ lent b) → Reached b m is
 
 -- after every list, the core may be marked from outside under its order
 abbrev pub MarkGranted : Type 0
-MarkGranted = (size : Size) (o : Order) (m : MemoryOf size) (is : List Item) → Reached o m is
-    → perform (run is (begun o m) .order) (run is (begun o m) .memory) (Mark 0) .verdict ≡ granted
+MarkGranted = (size : Size) (b : Item) (m : MemoryOf size) (is : List Item) → Reached b m is
+    → perform (run is (begun b m) .order) (run is (begun b m) .memory) (Mark 0) .verdict ≡ granted
 
 -- after every list, a spread under its order is granted
 abbrev pub SpreadGranted : Type 0
-SpreadGranted = (size : Size) (o : Order) (m : MemoryOf size) (is : List Item) → Reached o m is
-    → perform (run is (begun o m) .order) (run is (begun o m) .memory) Spread .verdict ≡ granted
+SpreadGranted = (size : Size) (b : Item) (m : MemoryOf size) (is : List Item) → Reached b m is
+    → perform (run is (begun b m) .order) (run is (begun b m) .memory) Spread .verdict ≡ granted
 
 -- a spread is granted on this memory and marks something, and no list leaves it, under any order
 pub record Unreached {size : Size} (o : Order) (m : MemoryOf size) : Type 0 where
   pub spread-granted : perform o m Spread .verdict ≡ granted
   pub spread-marks : marksSome m ≡ true
-  pub no-list : (p : Order) (n : MemoryOf size) (is : List Item) → Reached p n is → run is (begun p n) .memory ≡ m → ⊥
+  pub no-list : (b : Item) (n : MemoryOf size) (is : List Item) → Reached b n is → run is (begun b n) .memory ≡ m → ⊥
 
 -- there is one of each size: SpreadExact speaks of more memories than lists leave
 abbrev pub GrantedUnreached : Type 0

@@ -8,7 +8,10 @@ pub mod Changes
 pub mod Preserve
 pub mod FlowEvents
 pub mod RecordEvents
+pub mod CallsKeep
+pub mod LayoutCalls
 pub mod ItemsKeep
 pub mod SpreadProof
 pub mod Witness
+pub mod LoadProof
 pub mod Proved

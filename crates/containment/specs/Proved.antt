@@ -1,55 +1,59 @@
--- The claims of demand 3, proved: those about lists here, that a done call leaves sound bytes and that a spread is exact in files of their own.
+-- The claims of demand 3, proved: those about lists here, that a spread is exact and what a load gives and leaves in files of their own.
 -- Assumes nothing.
 use mathlib.Core.Path.{_≡_, refl, sym, ap, _∙_}
-use mathlib.Core.Bool.{Bool, true, false, cond, and-eq-true-iff, true≢false}
+use mathlib.Core.Bool.{true, false, and-eq-true-iff, true≢false, false≢true}
 use mathlib.Core.Logic.{inr, ⊎-elim}
 use mathlib.Core.List.{List, [], _∷_, List·Memᴰ, List·Memᴰ·head, List·Memᴰ·tail}
 use Prim.Native.Nat.{ℕ, _+_, _*_, _<_}
-use native.Mathlib.Omega.{arith}
-use lib.Dec.{leb}
 use lib.ListN.{set}
 use lib.Seq.{set-getD}
-use borrow.Author.Tests.{eqb-true, leb-true}
-use Rattle.bits.specs.AllLaws.{either, and-l, and-r, not-so}
+use borrow.Author.Tests.{eqb-true}
+use Rattle.bits.specs.AllLaws.{either, not-so}
 use Rattle.rows.specs.Size.{Size, numbersOf}
 use Rattle.levels.specs.declared.Order.{Order}
 use Rattle.records.specs.Records.{recordSize, field, setField, isTask}
 use Rattle.records.specs.RecordLaws.{core-task}
 use Rattle.model.specs.declared.Call.the-variants.{Start}
-use Rattle.model.specs.Verdicts.{granted, slipped, row-state, row-number, isDone}
+use Rattle.model.specs.Verdicts.{granted, row-state, isDone}
 use Rattle.model.specs.State.{MemoryOf, task, driverOf, marked, hasFlow, hasRead, hasWrite}
 use Rattle.model.specs.StateLaws.{outside-mark}
 use Rattle.model.specs.Effects.{withBytes, objectOf, mark-outside, effect, effects}
-use Rattle.model.specs.Events.{Test, need, OutcomeOf, unless, firstFailing, verdictOf, outcome, mark}
+use Rattle.model.specs.Events.{OutcomeOf, unless, firstFailing, verdictOf, outcome, mark}
 use Rattle.model.specs.Spread.{spread}
 use Rattle.model.specs.Monitor.{refusedUnless, fitted, start, started, perform}
 use Rattle.model.specs.MarkLaws.{where-rest}
 use Rattle.model.specs.SoundLaws as model
-use Rattle.model.specs.TableLaws.{refusals, start-done, by-call}
+use Rattle.model.specs.TableLaws.{start-done, fitted-fits}
+use Rattle.model.specs.Load.{load, pastOrder}
+use Rattle.model.specs.LoadLaws.{past-rows, past-load, load-past}
 use Rattle.model.specs.Trials.{Q}
-use Rattle.containment.specs.Lists.{Item, asks, reports, lent, StandingOf, Role, starting, marking, other, role, entered, next, run, Admitted, Admissible, begun}
-use Rattle.containment.specs.Claims.{Reached, Containment, Determined, LeavesSound, RepeatedMark, NeverUnsound, FreeBare, DriversAbove, StartGranted, OwnOrderReached, MarkGranted, SpreadGranted, GrantedUnreached}
+use Rattle.containment.specs.Lists.{Item, asks, reports, loads, lent, StandingOf, Role, starting, marking, other, role, entered, next, run, Admitted, Admissible, leaves, begun, Begins, by-start, by-load}
+use Rattle.containment.specs.Claims.{Reached, Containment, Determined, LeavesSound, RepeatedMark, NeverUnsound, FreeBare, DriversAbove, StartGranted, ListsBegin, OwnOrderReached, MarkGranted, SpreadGranted, GrantedUnreached}
 use Rattle.containment.specs.Tables.{Table, flows, reads, writes, has}
 use Rattle.containment.specs.Invariant.{standing, Joined, Limits, joins, Invariant, contained}
-use Rattle.containment.specs.ItemsKeep.{start-keeps, run-keeps}
+use Rattle.containment.specs.ItemsKeep.{begun-keeps, run-keeps}
 use Rattle.containment.specs.Witness.{upward, upward-granted, upward-marks, none-leaves}
 pub use Rattle.containment.specs.SpreadProof.{spread-exact}
+pub use Rattle.containment.specs.LoadProof.{layout-gives, load-gives, loads-sound, refused-load, untouched-by-load, load-is-list, load-tells}
 
--- what a list begun by a granted start leaves
-reached : {size : Size} (o : Order) (m : MemoryOf size) (is : List Item) → Reached o m is → Invariant (run is (begun o m))
-unfolding begun
-reached o m is r = run-keeps is (begun o m) (start-keeps o m (ap isDone (r .granted-start))) (r .admissible)
+-- what a list leaves
+reached : {size : Size} (b : Item) (m : MemoryOf size) (is : List Item) → Reached b m is → Invariant (run is (begun b m))
+reached b m is r = run-keeps is (begun b m) (begun-keeps (r .beginning)) (r .admissible)
 
 pub containment : Containment
-containment size o m is r = contained (run is (begun o m)) (reached o m is r .limits)
+containment size b m is r = contained (run is (begun b m)) (reached b m is r .limits)
 
--- a granted start leaves the same whatever was there
+-- what makes the state of a start leaves the same whatever was there
+started-memory : {size : Size} (o : Order) (m : MemoryOf size) → perform o m Start .verdict ≡ granted → perform o m Start .memory ≡ started o
+started-memory {size} o m g = ap (λ (out : OutcomeOf size). out .memory) (start-done o m (ap isDone g) .2)
+
 pub determined : Determined
-unfolding begun
-determined size o m n is g h = ap (λ (u : MemoryOf size). run is (standing o u [])) (left m g ∙ sym (left n h))
+unfolding begun leaves
+determined size b m n is p q = ap (λ (u : MemoryOf size). run is (standing (lent b) u [])) (left b p q)
   where
-    left : (u : MemoryOf size) → perform o u Start .verdict ≡ granted → perform o u Start .memory ≡ started o
-    left u e = ap (λ (out : OutcomeOf size). out .memory) (start-done o u (ap isDone e) .2)
+    left : (b : Item) → Begins m b → Begins n b → leaves b m ≡ leaves b n
+    left b (by-start o g) (by-start p h) = started-memory o m g ∙ sym (started-memory o n h)
+    left b (by-load o t g) (by-load p u h) = ap (λ (out : OutcomeOf size). out .memory) (load-past o m t g .2 ∙ sym (load-past o n t h .2))
 
 -- ---- soundness is kept
 
@@ -60,35 +64,22 @@ leaves-sound = model.leaves-sound
 
 module _ {size : Size} (s : StandingOf size) (i : Invariant s) where
   fitted-out : (out : OutcomeOf size) → fitted (s .order) (s .memory) out ≡ out
-  unfolding fitted refusedUnless
-  fitted-out out = rw (i .limits .fits, i .is-sound, i .passes)
-
-  start-out : start (s .order) (s .memory) ≡ record { verdict = granted; rounds = 0; memory = started (s .order) }
-  unfolding start refusedUnless
-  start-out = rw (i .limits .fits, i .passes)
-
--- an event's verdict is granted, slipped or the number of one of its rows, and those come after rows 2 and 3
-not-state : (ts : List Test) (last : ℕ) → refusals ts ≡ true → (last ≡ row-state → ⊥) → firstFailing ts last ≡ row-state → ⊥
-unfolding firstFailing unless
-not-state [] last r h e = h e
-not-state (need n true ∷ ts) last r h e = not-state ts last (and-r (leb row-number n) (refusals ts) r) h e
-not-state (need n false ∷ ts) last r h e = omega (arith, leb-true row-number n (and-l (leb row-number n) (refusals ts) r))
+  fitted-out out = fitted-fits (s .order) (s .memory) out (i .limits .fits) (i .is-sound) (i .passes)
 
 pub never-unsound : NeverUnsound
-unfolding outcome verdictOf unless spread
-never-unsound size o m is r c =
-    by-call (λ out. out .verdict ≡ row-state → ⊥) (s .order) (s .memory)
-    (rw (start-out s i) (λ e. omega arith)) (λ e n. rw (fitted-out s i) (not-state (e .tests) _ n (honest (e .honest)))) (rw (fitted-out s i) (λ e. omega arith)) c
+never-unsound size b m is r = (
+  λ c. not-state (past-rows (s .order) (i .passes) (s .memory) (i .limits .fits, i .is-sound) c),
+  λ t. not-state (past-load (s .order) (s .memory) t (i .limits .fits) (i .passes)),
+)
   where
     s : StandingOf size
-    s = run is (begun o m)
+    s = run is (begun b m)
 
     i : Invariant s
-    i = reached o m is r
+    i = reached b m is r
 
-    honest : (b : Bool) → cond b granted slipped ≡ row-state → ⊥
-    honest true e = omega arith
-    honest false e = omega arith
+    not-state : {v : ℕ} → pastOrder v ≡ true → v ≡ row-state → ⊥
+    not-state h e = unfold pastOrder in false≢true (rw e at h)
 
 -- ---- what is marked from outside is marked already, and its objects are
 
@@ -109,25 +100,25 @@ mark-again {size} s k e h = rw same (where-rest (objectOf m e) m own)
 
 pub repeated-mark : RepeatedMark
 unfolding outcome verdictOf firstFailing unless mark effects
-repeated-mark size o m is r e h = fitted-out s i _ ∙ rw (i .limits .named e h .0, mark-again s (i .limits) e h)
+repeated-mark size b m is r e h = fitted-out s i _ ∙ rw (i .limits .named e h .0, mark-again s (i .limits) e h)
   where
     s : StandingOf size
-    s = run is (begun o m)
+    s = run is (begun b m)
 
     i : Invariant s
-    i = reached o m is r
+    i = reached b m is r
 
 -- ---- free numbers, and objects and their drivers
 
 pub free-bare : FreeBare
 unfolding hasFlow hasRead hasWrite
-free-bare size o m is r x y lx ly free = ((from flows, from reads, from writes), (to flows, to reads, to writes))
+free-bare size b m is r x y lx ly free = ((from flows, from reads, from writes), (to flows, to reads, to writes))
   where
     n : MemoryOf size
-    n = run is (begun o m) .memory
+    n = run is (begun b m) .memory
 
     joined : (t : Table) (u v : ℕ) → u < numbersOf size → v < numbersOf size → has t n u v ≡ true → Joined n u v
-    joined = joins (reached o m is r .limits)
+    joined = joins (reached b m is r .limits)
 
     from : (t : Table) → has t n x y ≡ false
     from t = not-so _ (λ h. true≢false (sym (joined t x y lx ly h .0) ∙ free))
@@ -136,13 +127,14 @@ free-bare size o m is r x y lx ly free = ((from flows, from reads, from writes),
     to t = not-so _ (λ h. true≢false (sym (joined t y x ly lx h .1) ∙ free))
 
 pub drivers-above : DriversAbove
-drivers-above size o m is r x l = reached o m is r .limits .bounded x l .driver-above
+drivers-above size b m is r x l = reached b m is r .limits .bounded x l .driver-above
 
 -- ---- no claim is empty
 
 admitted : {size : Size} (i : Item) (s : StandingOf size) → lent i ≡ s .order → Admitted i s
 admitted (asks o c) s e = inr (λ h. e)
 admitted (reports o) s e = tt
+admitted (loads o t) s e = tt
 
 -- a call under the order that stands leaves it standing
 next-order : {size : Size} (i : Item) (s : StandingOf size) → lent i ≡ s .order → next i s .order ≡ s .order
@@ -154,6 +146,7 @@ next-order (asks o c) s e = ⊎-elim (λ h. rw h (go (role c))) (λ h. rw h) (ei
     go (marking t) = refl
     go other = refl
 next-order (reports o) s e = refl
+next-order (loads o t) s e = ⊎-elim (λ h. rw h e) (λ h. rw h) (either (pastOrder (load o (s .memory) t .verdict)))
 
 under-one : {size : Size} (o : Order) (is : List Item) (s : StandingOf size) → s .order ≡ o → ((i : Item) → List·Memᴰ i is → lent i ≡ o) → Admissible is s
 under-one o [] s e l = tt
@@ -165,21 +158,24 @@ pub start-granted : StartGranted
 unfolding start refusedUnless
 start-granted size o m f p = rw (f, p)
 
+pub lists-begin : ListsBegin
+lists-begin size o m f p = (by-start o (start-granted size o m f p), λ t. by-load o t (past-load o m t f p))
+
 pub own-order-reached : OwnOrderReached
 unfolding begun
-own-order-reached size o m is g h = record { granted-start = g; admissible = under-one o is (begun o m) refl h }
+own-order-reached size b m is g h = record { beginning = g; admissible = under-one (lent b) is (begun b m) refl h }
 
 pub mark-granted : MarkGranted
 unfolding outcome verdictOf firstFailing unless mark task isTask
-mark-granted size o m is r =
-    let s = run is (begun o m) in
-    let i = reached o m is r in
+mark-granted size b m is r =
+    let s = run is (begun b m) in
+    let i = reached b m is r in
     ap (λ (out : OutcomeOf size). out .verdict) (fitted-out s i (outcome (s .memory) (mark (s .order) (s .memory) 0))) ∙ rw (core-task size (s .order) (s .memory .bytes) (i .is-sound))
 
 pub spread-granted : SpreadGranted
 unfolding spread
-spread-granted size o m is r = ap (λ (out : OutcomeOf size). out .verdict) (fitted-out (run is (begun o m)) (reached o m is r) (spread (run is (begun o m) .memory)))
+spread-granted size b m is r = ap (λ (out : OutcomeOf size). out .verdict) (fitted-out (run is (begun b m)) (reached b m is r) (spread (run is (begun b m) .memory)))
 
 pub granted-unreached : GrantedUnreached
 granted-unreached size =
-    (Q, upward size, record { spread-granted = upward-granted size; spread-marks = upward-marks size; no-list = λ o m is r. none-leaves (run is (begun o m)) (reached o m is r) })
+    (Q, upward size, record { spread-granted = upward-granted size; spread-marks = upward-marks size; no-list = λ b m is r. none-leaves (run is (begun b m)) (reached b m is r) })

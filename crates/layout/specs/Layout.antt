@@ -25,7 +25,7 @@ pub data Objects : Type 0 where
   none : Objects
   object : Object → Objects → Objects → Objects
 
--- "form": a root object with what it holds, or a task
+-- a form that stands in no other: a root object with what it holds, or a task
 pub data Form : Type 0 where
   root : Object → Objects → Form
   task : Task → Form
@@ -36,7 +36,7 @@ Layout = List Form
 
 -- ---- how deep it is
 
--- the levels of objects that hold objects
+-- how many levels lie one inside another
 unfoldable pub depthOf : Objects → ℕ
 depthOf none = 0
 depthOf (object h inner next) = max (depthOf inner + 1) (depthOf next)
@@ -145,7 +145,7 @@ unfoldable pub formText : Form → List ℕ → List ℕ
 formText (root h inner) rest = objectText h inner rest
 formText (task a) rest = taskText a rest
 
--- a line feed ends each form
+-- a line feed stands after each form that is in no other
 unfoldable pub written : Layout → List ℕ
 written [] = []
 written (f ∷ fs) = formText f (lineFeed ∷ written fs)

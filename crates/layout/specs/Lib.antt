@@ -3,6 +3,8 @@ pub mod Reading
 pub mod Answers
 pub mod NumberLaws
 pub mod PlaceLaws
+pub mod Quick
+pub mod QuickLaws
 pub mod ReadingLaws
 pub mod NestLaws
 pub mod AnswerLaws

@@ -12,7 +12,7 @@ use Rattle.layout.specs.Layout.{Object, Task, Objects, none, object, For
 pub data Reading (A : Type 0) : Type 0 where
   -- what was read, and the text after it
   found : A → List ℕ → Reading A
-  -- no form has this text: what is left of it from the byte on at which the reader leaves
+  -- it cannot be read: what is left of the text from the byte on at which the reader leaves
   lost : List ℕ → Reading A
 
 -- what was read, and then what follows it
@@ -77,7 +77,7 @@ unfoldable mutual
   objectsBy (suc k) (b ∷ t) =
       cond (eqb b lineFeed) (after (objectBy k t) λ f u. after (objectsBy k u) λ next v. found (object (f .0) (f .1) next) v) (found none (b ∷ t))
 
--- a step reads a byte, so the text's length is bound enough
+-- each step but the last reads a byte, so the text's length and one more are bound enough
 abbrev pub objectAt : List ℕ → Reading (Object × Objects)
 objectAt t = objectBy (suc (length t)) t
 
@@ -101,12 +101,13 @@ readLayout t = layoutBy (suc (length t)) t
 
 -- ---- what a text settles before any call
 
+-- a fault has a place: how many bytes stand before it
 pub data Settled : Type 0 where
   -- a layout that is not too deep
   fits : Layout → Settled
-  -- "form": outside the grammar, or too long; where the reader leaves
+  -- 14, "form": outside the grammar, at the byte where the reader leaves; or too long, at the first byte too many
   broken : ℕ → Settled
-  -- "deep": where the first ninth level begins
+  -- 15, "deep": a ninth level, at its opening bracket
   deep : ℕ → Settled
 
 -- the brackets that are open after a byte
@@ -118,6 +119,7 @@ unfoldable pub ninthFrom : ℕ → List ℕ → ℕ
 ninthFrom held [] = 0
 ninthFrom held (b ∷ t) = cond (eqb b opening && leb mostDeep held) 0 (1 + ninthFrom (opened held b) t)
 
+-- form is looked for in the whole text first: what is found is all of it
 unfoldable pub settledBy : List ℕ → Reading Layout → Settled
 settledBy t (found f u) = cond (leb (depth f) mostDeep) (fits f) (deep (ninthFrom 0 t))
 settledBy t (lost u) = broken (length t - length u)

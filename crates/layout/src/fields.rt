@@ -1,9 +1,11 @@
 // The numbers, words and brackets of a layout's text, read in place: the heads of objects, and tasks.
 ghost use mathlib.Core.Path.{_≡_};
-ghost use Prim.Native.Nat.{_≤_};
-ghost use lib.ListN.{length, drop};
+ghost use mathlib.Core.List.{List};
+ghost use Prim.Native.Nat.{ℕ, _+_, _≤_, _<_};
+ghost use lib.ListN.{length, drop, getD};
 ghost use Rattle.layout.specs.Reading.{number, field, head, taskAt};
 ghost use Rattle.layout.specs.Answers.{digitAt, standsAt, fieldAnswer, leftField, headAnswer, leftHead, taskAnswer, leftTask};
+ghost use Rattle.layout.specs.Quick.{joined, quadAt, IsWord, QuickField, QuickHead, QuickTask};
 
 // A number and where it ends, or where the reader leaves.
 pub enum Field {
@@ -129,8 +131,8 @@ fn left_field(field: Field) -> usize
     }
 }
 
-// An object's words, up to what it holds.
-pub fn head_at(text: &[u8], at: usize) -> Heading
+// An object's words, up to what it holds, byte by byte.
+fn head_by_bytes(text: &[u8], at: usize) -> Heading
     requires { ⌜ at ≤ length (now text) ⌝ }
     ensures { λ r. ⌜ r ≡ headAnswer (length (now (text .entry))) (head (drop at (now (text .entry)))) ⌝ }
 {
@@ -175,8 +177,8 @@ pub fn left_head(heading: Heading) -> usize
     }
 }
 
-// A task's form, from its opening bracket to its closing one.
-pub fn task_at(text: &[u8], at: usize) -> Running
+// A task's form, from its opening bracket to its closing one, byte by byte.
+fn task_by_bytes(text: &[u8], at: usize) -> Running
     requires { ⌜ at ≤ length (now text) ⌝ }
     ensures { λ r. ⌜ r ≡ taskAnswer (length (now (text .entry))) (taskAt (drop at (now (text .entry)))) ⌝ }
 {
@@ -230,4 +232,173 @@ pub fn left_task(running: Running) -> usize
         } => end,
         Running::Idle { at } => at,
     }
+}
+
+// ---- the quick reader compares a word's first and last four bytes, each as one number. It may leave any text to the other one, which finds the place.
+
+// Four bytes as one number, the first lowest.
+fn join(a: u8, b: u8, c: u8, d: u8) -> u32
+    ensures { λ r. ⌜ r ≡ joined a b c d ⌝ }
+{
+    (a as u32) + (b as u32) * 0x100 + (c as u32) * 0x1_0000 + (d as u32) * 0x100_0000
+}
+
+// The four bytes at `at` as one number; the text is known to be of bytes where one is read.
+fn quad(text: &[u8], at: usize) -> u32
+    requires { ⌜ at + 4 ≤ length (now text) ⌝ }
+    ensures { λ r. ⌜ (r ≡ quadAt (now (text .entry)) at) × ((i : ℕ) → getD (now (text .entry)) i 0 < 0x100) ⌝ }
+{
+    join(text[at], text[at + 1], text[at + 2], text[at + 3])
+}
+
+// The word of a size that begins and ends with these four bytes, and the number after it.
+fn quick_field(text: &[u8], at: usize, size: usize, first: u32, last: u32) -> Field
+    requires { ⌜ (at ≤ length (now text)) × (4 ≤ size) × (size ≤ 8) ⌝ }
+    ensures { λ r. ⌜ ((w : List ℕ) → IsWord w size first last → QuickField (length (now (text .entry))) (field w (drop at (now (text .entry)))) r) ⌝ }
+{
+    if text.len() - at < 8 {
+        return Field::Missing { at };
+    }
+    if quad(text, at) != first {
+        return Field::Missing { at };
+    }
+    if quad(text, at + size - 4) != last {
+        return Field::Missing { at };
+    }
+    number_at(text, at + size)
+}
+
+fn quick_head(text: &[u8], at: usize) -> Heading
+    requires { ⌜ at ≤ length (now text) ⌝ }
+    ensures { λ r. ⌜ QuickHead (length (now (text .entry))) (head (drop at (now (text .entry)))) r ⌝ }
+{
+    let first = quick_field(
+        text,
+        at,
+        8,
+        join(b'(', b'o', b'b', b'j'),
+        join(b'e', b'c', b't', b' '),
+    );
+    let Field::Number { value: number, end } = first else {
+        return Heading::Headless { at };
+    };
+    let second = quick_field(
+        text,
+        end,
+        8,
+        join(b' ', b'd', b'r', b'i'),
+        join(b'v', b'e', b'r', b' '),
+    );
+    let Field::Number { value: driver, end } = second else {
+        return Heading::Headless { at };
+    };
+    let third = quick_field(
+        text,
+        end,
+        7,
+        join(b' ', b'l', b'e', b'v'),
+        join(b'v', b'e', b'l', b' '),
+    );
+    let Field::Number { value: level, end } = third else {
+        return Heading::Headless { at };
+    };
+    Heading::Holds {
+        number,
+        driver,
+        level,
+        end,
+    }
+}
+
+fn quick_task(text: &[u8], at: usize) -> Running
+    requires { ⌜ at ≤ length (now text) ⌝ }
+    ensures { λ r. ⌜ QuickTask (length (now (text .entry))) (taskAt (drop at (now (text .entry)))) r ⌝ }
+{
+    let first = quick_field(
+        text,
+        at,
+        6,
+        join(b'(', b't', b'a', b's'),
+        join(b'a', b's', b'k', b' '),
+    );
+    let Field::Number { value: number, end } = first else {
+        return Running::Idle { at };
+    };
+    let second = quick_field(
+        text,
+        end,
+        7,
+        join(b' ', b'i', b'm', b'a'),
+        join(b'a', b'g', b'e', b' '),
+    );
+    let Field::Number { value: image, end } = second else {
+        return Running::Idle { at };
+    };
+    let third = quick_field(
+        text,
+        end,
+        7,
+        join(b' ', b'l', b'e', b'v'),
+        join(b'v', b'e', b'l', b' '),
+    );
+    let Field::Number { value: level, end } = third else {
+        return Running::Idle { at };
+    };
+    let fourth = quick_field(
+        text,
+        end,
+        7,
+        join(b' ', b'r', b'e', b'a'),
+        join(b'a', b'd', b's', b' '),
+    );
+    let Field::Number { value: reads, end } = fourth else {
+        return Running::Idle { at };
+    };
+    if !is_at(text, end, b')') {
+        return Running::Idle { at };
+    }
+    Running::Runs {
+        number,
+        image,
+        level,
+        reads,
+        end: end + 1,
+    }
+}
+
+// An object's words, up to what it holds.
+pub fn head_at(text: &[u8], at: usize) -> Heading
+    requires { ⌜ at ≤ length (now text) ⌝ }
+    ensures { λ r. ⌜ r ≡ headAnswer (length (now (text .entry))) (head (drop at (now (text .entry)))) ⌝ }
+{
+    let quick = quick_head(text, at);
+    let Heading::Holds {
+        number: _,
+        driver: _,
+        level: _,
+        end: _,
+    } = quick
+    else {
+        return head_by_bytes(text, at);
+    };
+    quick
+}
+
+// A task's form, from its opening bracket to its closing one.
+pub fn task_at(text: &[u8], at: usize) -> Running
+    requires { ⌜ at ≤ length (now text) ⌝ }
+    ensures { λ r. ⌜ r ≡ taskAnswer (length (now (text .entry))) (taskAt (drop at (now (text .entry)))) ⌝ }
+{
+    let quick = quick_task(text, at);
+    let Running::Runs {
+        number: _,
+        image: _,
+        level: _,
+        reads: _,
+        end: _,
+    } = quick
+    else {
+        return task_by_bytes(text, at);
+    };
+    quick
 }

@@ -2,8 +2,10 @@
 ghost use mathlib.Core.Path.{_≡_};
 ghost use Prim.Native.Nat.{_≤_};
 ghost use lib.ListN.{length, drop};
+ghost use Rattle.layout.specs.Layout.{mostDeep};
 ghost use Rattle.layout.specs.Reading.{objectAt, objectsAt, formAt, opened, ninthFrom, settled};
 ghost use Rattle.layout.specs.Answers.{leftAnswer, nestAnswer, objectAnswer, objectsAnswer, formAnswer, textAnswer};
+ghost use Rattle.layout.specs.Quick.{QuickObject};
 
 pub mod fields;
 
@@ -123,23 +125,59 @@ fn form(text: &[u8], at: usize, level: usize) -> Answer
 
 // The objects in one at a level, each after a line feed.
 fn forms(text: &[u8], at: usize, level: usize) -> Answer
-    requires { ⌜ (at ≤ length (now text)) × (level ≤ 8) ⌝ }
+    requires { ⌜ (at ≤ length (now text)) × (level ≤ mostDeep) ⌝ }
     ensures { λ r. ⌜ r ≡ objectsAnswer level (length (now (text .entry))) (objectsAt (drop at (now (text .entry)))) ⌝ }
 {
     let mut next = at;
-    let mut deepest = false;
+    let mut met = false;
     while is_at(text, next, b'\n') {
         let inner = form(text, next + 1, level + 1);
         let Answer::Read { end, deep } = inner else {
             return inner;
         };
         next = end;
-        deepest = deepest | deep;
+        met = met | deep;
     }
     Answer::Read {
         end: next,
-        deep: deepest,
+        deep: met,
     }
+}
+
+// A root that holds nothing, read without the two functions that call each other; any other text is left to them.
+fn leaf(text: &[u8], at: usize) -> Answer
+    requires { ⌜ at ≤ length (now text) ⌝ }
+    ensures { λ r. ⌜ QuickObject 1 (length (now (text .entry))) (objectAt (drop at (now (text .entry)))) r ⌝ }
+{
+    let head = head_at(text, at);
+    let Heading::Holds {
+        number: _,
+        driver: _,
+        level: _,
+        end,
+    } = head
+    else {
+        return Answer::Unread { at };
+    };
+    if !is_at(text, end, b')') {
+        return Answer::Unread { at };
+    }
+    Answer::Read {
+        end: end + 1,
+        deep: false,
+    }
+}
+
+// A root object, from its opening bracket to its closing one.
+fn root(text: &[u8], at: usize) -> Answer
+    requires { ⌜ at ≤ length (now text) ⌝ }
+    ensures { λ r. ⌜ r ≡ objectAnswer 1 (length (now (text .entry))) (objectAt (drop at (now (text .entry)))) ⌝ }
+{
+    let leaf = leaf(text, at);
+    let Answer::Read { end: _, deep: _ } = leaf else {
+        return form(text, at, 1);
+    };
+    leaf
 }
 
 // A root object or a task.
@@ -148,7 +186,7 @@ fn form_at(text: &[u8], at: usize) -> Answer
     ensures { λ r. ⌜ r ≡ formAnswer (length (now (text .entry))) (formAt (drop at (now (text .entry)))) ⌝ }
 {
     if !is_at(text, at + 1, b't') {
-        return form(text, at, 1);
+        return root(text, at);
     }
     let task = task_at(text, at);
     let Running::Runs {
@@ -168,7 +206,7 @@ fn form_at(text: &[u8], at: usize) -> Answer
 
 // The brackets that are open after a byte.
 fn opened_by(held: usize, b: u8) -> usize
-    requires { ⌜ held ≤ 8 ⌝ }
+    requires { ⌜ held ≤ mostDeep ⌝ }
     ensures { λ r. ⌜ r ≡ opened held b ⌝ }
 {
     if b == b'(' {

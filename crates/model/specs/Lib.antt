@@ -11,6 +11,8 @@ pub mod MarkLaws
 pub mod SpreadLaws
 pub mod Trials
 pub mod TrialsProved
+pub mod LoadTrial
+pub mod LoadTrialProved
 pub mod TableLaws
 pub mod EffectLaws
 pub mod SoundLaws

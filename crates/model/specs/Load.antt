@@ -53,7 +53,7 @@ module _ {size : Size} where
   laidOut o (broken place) = refusal row-form (started o)
   laidOut o (deep place) = refusal row-deep (started o)
 
-  -- as a start, it tests lengths and the order only
+  -- as a start, it tests only lengths for 2, then the order; and then the text
   unfoldable pub load : Order → MemoryOf size → List ℕ → OutcomeOf size
   load o m t = refusedUnless (lengthsFit m) row-state m (refusedUnless (orderPasses o) row-order m (laidOut o (settled t)))
 
@@ -61,9 +61,9 @@ module _ {size : Size} where
 unfoldable pub pastOrder : ℕ → Bool
 pastOrder v = not (eqb v row-state || eqb v row-order)
 
--- ---- where a text is refused
+-- ---- what a text alone settles: an addition to document 02, for whoever is told 14 or 15
 
--- the verdict of a load that gets to no call, and where the reader left
+-- 0, 14 or 15 as the load would give it before any call, with the place of the fault; with 0, the text's end
 unfoldable pub checked : List ℕ → Settled → Checked
 checked t (fits f) = record { verdict = granted; offset = length t }
 checked t (broken place) = record { verdict = row-form; offset = place }

@@ -1,7 +1,7 @@
 -- What calls in turn leave, and a load: the state of a start or what its calls leave, sound, whatever the memory lent held.
 -- Assumes nothing.
-use mathlib.Core.Path.{_≡_, refl, sym, ap, _∙_}
-use mathlib.Core.Logic.{_⊎_, inl, inr, ⊎-elim}
+use mathlib.Core.Path.{_≡_, refl, sym, _∙_}
+use mathlib.Core.Logic.{inl, inr, ⊎-elim}
 use mathlib.Core.Bool.{Bool, true, false, cond, true≢false, false≢true}
 use mathlib.Core.List.{List, [], _∷_, _++_}
 use Prim.Native.Nat.{ℕ}
@@ -16,7 +16,7 @@ use Rattle.layout.specs.Layout.{Layout}
 use Rattle.layout.specs.Reading.{Settled, fits, broken, deep, settled}
 use Rattle.model.specs.Verdicts.{granted, slipped, isDone, row-state, row-order, row-number, row-form, row-deep}
 use Rattle.model.specs.State.{MemoryOf, lengthsFit}
-use Rattle.model.specs.Events.{Test, need, OutcomeOf, unless, firstFailing, verdictOf, outcome}
+use Rattle.model.specs.Events.{Test, need, unless, firstFailing, verdictOf, outcome}
 use Rattle.model.specs.Spread.{spread}
 use Rattle.model.specs.Monitor.{refusal, refusedUnless, start, started, perform}
 use Rattle.model.specs.TableLaws.{refusals, by-call, fitted-fits, refused-keeps}
@@ -80,19 +80,32 @@ module _ {size : Size} (o : Order) where
 -- ---- a load past row 3
 
 module _ (size : Size) (o : Order) where
+  -- the number of a refused call is given
+  pub laid-tells : (f : Layout) → laidOut {size = size} o (fits f) .verdict ≡ inTurn {size = size} o (layoutCalls f) (started o) .verdict
+  unfolding laidOut whole refusal
+  laid-tells f = elim (either (isDone (inTurn {size = size} o (layoutCalls f) (started o) .verdict))) [ inl d ↦ rw d | inr d ↦ rw d ]
+
   -- what a load gives: 14, 15, or what its calls give
   pub laid-gives : (P : ℕ → Type 0) → P row-form → P row-deep → ((f : Layout) → P (inTurn {size = size} o (layoutCalls f) (started o) .verdict)) → (s : Settled) → P (laidOut {size = size} o s .verdict)
-  unfolding laidOut whole refusal
-  laid-gives P a b calls (fits f) = ⊎-elim (λ h. rw h (calls f)) (λ h. rw h (calls f)) (either (isDone (inTurn {size = size} o (layoutCalls f) (started o) .verdict)))
+  unfolding laidOut refusal
+  laid-gives P a b calls (fits f) = rw (laid-tells f) (calls f)
   laid-gives P a b calls (broken place) = a
   laid-gives P a b calls (deep place) = b
 
   -- what it leaves: the state of a start, or what its calls leave
-  pub laid-leaves : (P : MemoryOf size → Type 0) → P (started o) → ((f : Layout) → P (inTurn o (layoutCalls f) (started o) .memory)) → (s : Settled) → P (laidOut o s .memory)
+  pub laid-leaves : (P : MemoryOf size → Type 0) → P (started o)
+      → ((f : Layout) → isDone (inTurn {size = size} o (layoutCalls f) (started o) .verdict) ≡ true → P (inTurn o (layoutCalls f) (started o) .memory)) → (s : Settled) → P (laidOut o s .memory)
   unfolding laidOut whole refusal
-  laid-leaves P a calls (fits f) = ⊎-elim (λ h. rw h (calls f)) (λ h. rw h a) (either (isDone (inTurn {size = size} o (layoutCalls f) (started o) .verdict)))
+  laid-leaves P a calls (fits f) = ⊎-elim (λ h. rw h (calls f h)) (λ h. rw h a) (either (isDone (inTurn {size = size} o (layoutCalls f) (started o) .verdict)))
   laid-leaves P a calls (broken place) = a
   laid-leaves P a calls (deep place) = a
+
+  -- a layout whose calls are all done leaves what they leave
+  pub laid-done : (f : Layout) → isDone (laidOut {size = size} o (fits f) .verdict) ≡ true
+      → (isDone (inTurn {size = size} o (layoutCalls f) (started o) .verdict) ≡ true) × (laidOut {size = size} o (fits f) ≡ inTurn o (layoutCalls f) (started o))
+  unfolding laidOut whole refusal
+  laid-done f h =
+      elim (either (isDone (inTurn {size = size} o (layoutCalls f) (started o) .verdict))) [ inl d ↦ (d, rw d) | inr d ↦ absurd (true≢false (sym (rw d at h) ∙ d)) ]
 
   pub laid-refused : (s : Settled) → isDone (laidOut {size = size} o s .verdict) ≡ false → laidOut {size = size} o s .memory ≡ started o
   unfolding laidOut whole refusal
@@ -102,7 +115,7 @@ module _ (size : Size) (o : Order) where
   laid-refused (deep place) h = refl
 
   pub laid-sound : orderPasses o ≡ true → (s : Settled) → Sound {size = size} o (laidOut o s .memory)
-  laid-sound p = laid-leaves (Sound o) (started-sound size o p) (λ f. turn-sound o (layoutCalls f) (started o) (started-sound size o p))
+  laid-sound p = laid-leaves (Sound o) (started-sound size o p) (λ f h. turn-sound o (layoutCalls f) (started o) (started-sound size o p))
 
   laid-past : orderPasses o ≡ true → (s : Settled) → pastOrder (laidOut {size = size} o s .verdict) ≡ true
   unfolding pastOrder

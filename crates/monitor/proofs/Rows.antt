@@ -1,16 +1,16 @@
 -- Rows 2 and 3 of the table, as a function that leaves at them meets them.
 -- Assumes nothing.
 use mathlib.Core.Path.{_≡_, refl, sym, ap, subst, _∙_}
-use mathlib.Core.Bool.{Bool, true, false, not, _&&_, and-eq-true-iff}
+use mathlib.Core.Bool.{Bool, true, false, not, _&&_}
 use mathlib.Core.List.{List, [], _∷_}
 use mathlib.Core.Logic.{inl, inr}
 use Prim.Native.Nat.{ℕ}
 use native.Mathlib.Omega.{arith}
 use lib.Dec.{ltb}
-use borrow.Author.Tests.{eqb-true, eq-eqb, ltb-true, not-true, not-false}
+use borrow.Author.Tests.{ltb-true, not-true, not-false}
 use types.Run.{OneOf}
 use denote.Enum.Declared.{tagOf}
-use Rattle.bits.specs.AllLaws.{and-i, and-l, and-r}
+use Rattle.bits.specs.AllLaws.{and-l, and-r}
 use Rattle.levels.specs.declared.Order.{Order}
 use Rattle.levels.specs.Order.{orderPasses}
 use Rattle.records.specs.Records.{sound}
@@ -19,6 +19,7 @@ use Rattle.model.specs.State.{Memory, lengthsFit}
 use Rattle.model.specs.Ready.{Ready}
 use Rattle.model.specs.Events.{Outcome, left}
 use Rattle.model.specs.Monitor.{perform, fitted, refusal, refusedUnless}
+use Rattle.model.specs.ReadyLaws.{sound-ready, through}
 use Rattle.model.proofs.Call.{the-type as the-call}
 use Rattle.model.specs.declared.Call.{Call}
 use Rattle.model.specs.declared.Call.the-variants.{Start, Read, Write, Execute, Create, CreateRoot, Move, Delete, CallTask, Invoke, Pass, Post, Find, Mark, Step, Spread}
@@ -62,14 +63,9 @@ module _ (o : Order) (m : Memory) (c : Call) (later : c ≡ Start → ⊥) where
 -- ---- behind them
 
 pub ready : (o : Order) (m : Memory) → not (lengthsFit m && sound o (m .bytes)) ≡ false → not (orderPasses o) ≡ false → Ready o (m .bytes) (m .words)
-unfolding lengthsFit
 ready o m f p =
-    let l = simp and-eq-true-iff at (not-false (lengthsFit m && sound o (m .bytes)) f) in (eqb-true _ _ (l .0 .0), eqb-true _ _ (l .0 .1), not-false _ p, l .1)
-
-through : (o : Order) (m : Memory) (out : Outcome) → Ready o (m .bytes) (m .words) → out ≡ fitted o m out
-unfolding fitted lengthsFit
-through o m out r =
-    rw (passed _ row-state m (refusedUnless (orderPasses o) row-order m out) (and-i (and-i (eq-eqb _ _ (r .0)) (eq-eqb _ _ (r .1))) (r .3)), passed _ row-order m out (r .2))
+    let both = not-false (lengthsFit m && sound o (m .bytes)) f in
+    sound-ready o m (not-false _ p) (and-l (lengthsFit m) (sound o (m .bytes)) both, and-r (lengthsFit m) (sound o (m .bytes)) both)
 
 -- a verdict of no rounds
 pub no-rounds : {out : Outcome} {v w n : ℕ} {bs ws : List ℕ} → (w ≡ v) × (n ≡ 0) → left v 0 bs ws ≡ out → left w n bs ws ≡ out

@@ -8,10 +8,15 @@ ghost use Rattle.model.specs.Ready.{Ready};
 ghost use Rattle.model.specs.Events.{left};
 ghost use Rattle.model.specs.Monitor as model;
 ghost use Rattle.model.specs.Monitor.{raised, oneMore, started, nextMarked};
+ghost use Rattle.model.specs.Load as layouts;
+ghost use Rattle.model.specs.Load.{inTurn, whole, layoutChecked};
+ghost use Rattle.loading.specs.Calls.{callsIn};
 ghost use Rattle.monitor.specs.Request.{callOf};
+use layout::Text;
 use levels::Order;
 use model::Answer;
 use model::Call;
+use model::Checked;
 use model::Report;
 use model::Tally;
 
@@ -248,6 +253,55 @@ pub fn perform_request(
     perform(bytes, words, tally, order, call)
 }
 
+// The calls of a layout's text on the state of a start, which is left again if one of them is refused.
+fn make(bytes: &mut [u8], words: &mut [u64], order: Order, text: &[u8]) -> u8
+    requires { ⌜ Ready order (now bytes) (now words) ⌝ }
+    ensures { λ r. ⌜ left r 0 (now (bytes .exit)) (now (words .exit)) ≡ whole order (inTurn order (callsIn (now (text .entry))) (memory (now (bytes .entry)) (now (words .entry)))) ⌝ }
+{
+    let verdict = loading::lay_out(bytes, words, order, text);
+    if verdict > model::SLIPPED {
+        set_up(bytes, words, order);
+    }
+    verdict
+}
+
+// A load tests lengths and the order only, as a start does, and then the text: its form, its depth, and its calls.
+fn load(bytes: &mut [u8], words: &mut [u64], order: Order, text: &[u8]) -> u8
+    ensures { λ r. ⌜ left r 0 (now (bytes .exit)) (now (words .exit)) ≡ layouts.load order (memory (now (bytes .entry)) (now (words .entry))) (now (text .entry)) ⌝ }
+{
+    if !lengths_fit(bytes, words) {
+        return model::STATE;
+    }
+    if !levels::order_passes(order) {
+        return model::ORDER;
+    }
+    set_up(bytes, words, order);
+    match layout::check(text) {
+        Text::Fits => make(bytes, words, order, text),
+        Text::Broken { at: _ } => model::FORM,
+        Text::Deep { at: _ } => model::DEEP,
+    }
+}
+
+// A whole load, with the tally by value: it counts once.
+pub fn load_counted(
+    bytes: &mut [u8],
+    words: &mut [u64],
+    tally: Tally,
+    order: Order,
+    text: &[u8],
+) -> Counted
+    ensures { λ r. ⌜ (left (r .answer .verdict) (r .answer .rounds) (now (bytes .exit)) (now (words .exit)) ≡ layouts.load order (memory (now (bytes .entry)) (now (words .entry))) (now (text .entry)))
+        × (r .tally ≡ raised tally (layouts.load order (memory (now (bytes .entry)) (now (words .entry))) (now (text .entry)) .verdict)) ⌝ }
+{
+    let verdict = load(bytes, words, order, text);
+    let next = count(tally, verdict);
+    Counted {
+        answer: plain(verdict),
+        tally: next,
+    }
+}
+
 // The one thin function over the lent tally, and what C and Rust call.
 #[no_mangle]
 pub extern "C" fn tupehiwo_perform(
@@ -264,6 +318,45 @@ pub extern "C" fn tupehiwo_perform(
     let done = perform_request(bytes, words, before, order, request);
     *tally = done.tally;
     done.answer
+}
+
+// The same for a load.
+#[no_mangle]
+pub extern "C" fn tupehiwo_load(
+    bytes: &mut [u8],
+    words: &mut [u64],
+    tally: &mut Tally,
+    order: Order,
+    text: &[u8],
+) -> Answer
+    ensures { λ r. ⌜ (left (r .verdict) (r .rounds) (now (bytes .exit)) (now (words .exit)) ≡ layouts.load order (memory (now (bytes .entry)) (now (words .entry))) (now (text .entry)))
+        × (now (tally .exit) ≡ raised (now (tally .entry)) (layouts.load order (memory (now (bytes .entry)) (now (words .entry))) (now (text .entry)) .verdict)) ⌝ }
+{
+    let before = *tally;
+    let done = load_counted(bytes, words, before, order, text);
+    *tally = done.tally;
+    done.answer
+}
+
+// What a load would answer to a text before any call, and where the reader left: as C and Rust call it.
+#[no_mangle]
+pub extern "C" fn tupehiwo_layout(text: &[u8]) -> Checked
+    ensures { λ r. ⌜ r ≡ layoutChecked (now (text .entry)) ⌝ }
+{
+    match layout::check(text) {
+        Text::Fits => Checked {
+            offset: text.len() as u32,
+            verdict: model::GRANTED,
+        },
+        Text::Broken { at } => Checked {
+            offset: at as u32,
+            verdict: model::FORM,
+        },
+        Text::Deep { at } => Checked {
+            offset: at as u32,
+            verdict: model::DEEP,
+        },
+    }
 }
 
 // The report, as C and Rust call it.

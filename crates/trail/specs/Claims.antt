@@ -78,8 +78,8 @@ pub record Begun (is : List Item) : Type 0 where
   pub order : Order
   pub items : List Item
   pub parts : is ≡ earlier ++ asks order Start ∷ items
-  pub reached : Reached order (standing earlier .memory) items
-  pub leaves : standing is ≡ lists.run items (begun order (standing earlier .memory))
+  pub reached : Reached (asks order Start) (standing earlier .memory) items
+  pub leaves : standing is ≡ lists.run items (begun (asks order Start) (standing earlier .memory))
 
 -- the memory and the order that a script ends with are those that the list of its calls leaves; either they leave the memory and the order of
 -- zeros, as where no start is granted, or they are a list of demand 3 from a granted start on

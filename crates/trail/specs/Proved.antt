@@ -29,7 +29,7 @@ use Rattle.model.specs.TableLaws.{Fitted, fitted-done, start-done, by-call, ref
 use Rattle.script.specs.Script.{noOrder, startWord, pieces, isNumber, value, sameWord, startOf, lineOf, readLine, tooMany}
 use Rattle.script.specs.declared.Line.{Line}
 use Rattle.script.specs.declared.Line.the-variants.{Bad, Starts, Asks}
-use Rattle.containment.specs.Lists.{Item, asks, Standing, Role, starting, marking, other, role, entered, next, run, Admitted, Admissible, begun}
+use Rattle.containment.specs.Lists.{Item, asks, Standing, Role, starting, marking, other, role, entered, next, run, Admitted, Admissible, leaves, begun, by-start}
 use Rattle.containment.specs.Claims.{Contained}
 use Rattle.containment.specs.Proved.{containment, spread-granted}
 use Rattle.trail.specs.Lines.{answered, asked, startedWith, doneBy, lineDone}
@@ -65,13 +65,13 @@ admissible-more (j ∷ is) i s a h = (a .0, admissible-more is i (next j s) (a .
 begun-more : (is : List Item) → Begun is → (i : Item) → Admitted i (standing is) → Begun (is ++ i ∷ [])
 unfolding standing
 begun-more is b i a =
-    let s = begun (b .order) (run (b .earlier) unstarted .memory) in
+    let s = begun (asks (b .order) Start) (run (b .earlier) unstarted .memory) in
     record {
       earlier = b .earlier;
       order = b .order;
       items = b .items ++ i ∷ [];
       parts = rw (b .parts) (append-assoc (b .earlier) (asks (b .order) Start ∷ b .items) (i ∷ []));
-      reached = record { granted-start = b .reached .granted-start; admissible = admissible-more (b .items) i s (b .reached .admissible) (rw (← b .leaves) a) };
+      reached = record { beginning = b .reached .beginning; admissible = admissible-more (b .items) i s (b .reached .admissible) (rw (← b .leaves) a) };
       leaves = run-more is i unstarted ∙ rw (b .leaves) (sym (run-more (b .items) i s));
     }
 
@@ -143,8 +143,8 @@ first-start is o e =
         order = o;
         items = [];
         parts = refl;
-        reached = record { granted-start = rw e (start-granted o zeros h); admissible = tt };
-        leaves = unfold standing in run-more is (asks o Start) unstarted ∙ rw e (unfold run begun next entered in rw h);
+        reached = record { beginning = by-start o (rw e (start-granted o zeros h)); admissible = tt };
+        leaves = unfold standing in run-more is (asks o Start) unstarted ∙ rw e (unfold run begun leaves next entered in rw h);
       })
       | inr h ↦ inl (refused-more is o Start e h)
     ]
@@ -209,7 +209,7 @@ unstarted-contained =
 pub script-contained : ScriptContained
 script-contained input =
     let e = ends input in
-    rw (e .0 .0, e .0 .1) (⊎-elim (λ h. rw h unstarted-contained) (λ b. rw (b .leaves) (containment present (b .order) _ (b .items) (b .reached))) (e .1))
+    rw (e .0 .0, e .0 .1) (⊎-elim (λ h. rw h unstarted-contained) (λ b. rw (b .leaves) (containment present (asks (b .order) Start) _ (b .items) (b .reached))) (e .1))
 
 -- ---- the lengths are right; and the bytes are sound and the order passes, once a start was granted
 
@@ -218,7 +218,7 @@ unfolding lengthsFit zeros
 zeros-fit = and-i (eq-eqb _ _ (length-replicate {A = ℕ} (lentBytes present) 0)) (eq-eqb _ _ (length-replicate {A = ℕ} (lentWords present) 0))
 
 begun-fitted : (is : List Item) → Begun is → Fitted (standing is .order) (standing is .memory) (spread (standing is .memory))
-begun-fitted is b = rw (b .leaves) (fitted-done _ _ _ (ap isDone (spread-granted present (b .order) _ (b .items) (b .reached))))
+begun-fitted is b = rw (b .leaves) (fitted-done _ _ _ (ap isDone (spread-granted present (asks (b .order) Start) _ (b .items) (b .reached))))
 
 ends-fit : (input : List ℕ) → lengthsFit (atEnd input .memory) ≡ true
 ends-fit input =

@@ -102,10 +102,10 @@ form-returns-5 t c =
 -- ---- objects side by side
 
 abbrev forms-Inv-loop : forms-lts.InvT-loop
-forms-Inv-loop text at level next₀ deepest₀ next deepest = (at ≤ next) × (next ≤ length text) × (objectsAnswer level (length text) (objectsAt (drop at text)) ≡ rest deepest level (length text) (objectsAt (drop next text)))
+forms-Inv-loop text at level next₀ met₀ next met = (at ≤ next) × (next ≤ length text) × (objectsAnswer level (length text) (objectsAt (drop at text)) ≡ rest met level (length text) (objectsAt (drop next text)))
 
 abbrev forms-μ-loop : forms-lts.MeasureT-loop
-forms-μ-loop text at level next₀ deepest₀ next deepest = length text - next
+forms-μ-loop text at level next₀ met₀ next met = length text - next
 
 -- another one begins
 line : (t : ℕ) (c : forms-lts.Then1 (is-at-reads.Asked, is-at-reads.Learnt, form-below t, form.Post) (forms-at t) forms.Post forms-Inv-loop forms-μ-loop) → standsAt lineFeed (drop (c .before .before .loop .next) (c .before .before .before .before .args .text .now)) ≡ true
@@ -138,7 +138,7 @@ forms-returns t c =
     let a = d .before .before .before .before .args in
     let w = d .before .before .loop in
     let told = c .enum-told .given .1 in
-    told ∙ rest-none (w .deepest) (a .level) (length (a .text .now)) (a .text .now) (w .next) _ (line t d) (object-lost _ _ _ _ (sym (c .before .before .form .ensures) ∙ told)) ∙ sym (w .inv .2)
+    told ∙ rest-none (w .met) (a .level) (length (a .text .now)) (a .text .now) (w .next) _ (line t d) (object-lost _ _ _ _ (sym (c .before .before .form .ensures) ∙ told)) ∙ sym (w .inv .2)
 
 forms-loop-less : (t : ℕ) → forms-lts.Need-loop-less (is-at-reads.Asked, is-at-reads.Learnt, form-below t, form.Post) (forms-at t) forms.Post forms-Inv-loop forms-μ-loop
 forms-loop-less t c =
@@ -159,14 +159,14 @@ forms-loop-again t c =
     let s = stands l (w .next) lineFeed (line t d) in (
       omega (arith, f .1 .fewer, length-drop (w .next + 1) l, length-drop e l),
       f .1 .goes-on .within,
-      w .inv .2 ∙ rest-more (w .deepest) (a .level) (length l) l (w .next) (f .0) e (line t d) (f .1 .goes-on .is) ∙ ap (λ (y : Bool). rest (w .deepest || y) (a .level) (length l) (objectsAt (drop e l))) (f .2),
+      w .inv .2 ∙ rest-more (w .met) (a .level) (length l) l (w .next) (f .0) e (line t d) (f .1 .goes-on .is) ∙ ap (λ (y : Bool). rest (w .met || y) (a .level) (length l) (objectsAt (drop e l))) (f .2),
     )
 
 forms-returns-2 : (t : ℕ) → forms-lts.Need-returns-2 (is-at-reads.Asked, is-at-reads.Learnt, form-below t, form.Post) (forms-at t) forms.Post forms-Inv-loop forms-μ-loop
 forms-returns-2 t c =
     let s = c .before .before .before .before in
     let w = c .before .before .loop in
-    rest-ends (w .deepest) (s .args .level) (s .args .text .now) (w .next) (s .pre .1 .1) (sym (c .before .is-at .ensures) ∙ c .if1 .left) (w .inv .1) ∙ sym (w .inv .2)
+    rest-ends (w .met) (s .args .level) (s .args .text .now) (w .next) (s .pre .1 .1) (sym (c .before .is-at .ensures) ∙ c .if1 .left) (w .inv .1) ∙ sym (w .inv .2)
 
 pub +form+forms-spec : {M : Type 1} → statement M
 +form+forms-spec = close μ-form μ-forms (λ t. form-lts.spec (nest-reads.Asked, nest-reads.Learnt, head-at-reads.Asked, head-at-reads.Learnt, left-head-reads.Asked, left-head-reads.Learnt, forms-below t, forms.Post, is-at-reads.Asked, is-at-reads.Learnt)

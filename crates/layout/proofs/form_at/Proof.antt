@@ -17,7 +17,7 @@ told c = sym (c .before .is-at .ensures) ∙ not-false _ (c .if1 .left)
 returns : tie.Need-returns
 returns c =
     let a = c .before .before .before .before .args in
-    c .form .ensures ∙ form-object _ (a .text .now) (a .at) (sym (c .before .before .is-at .ensures) ∙ not-true _ (c .before .if1 .taken))
+    c .root .ensures ∙ form-object _ (a .text .now) (a .at) (sym (c .before .before .is-at .ensures) ∙ not-true _ (c .before .if1 .taken))
 
 returns-2 : tie.Need-returns-2
 returns-2 c =

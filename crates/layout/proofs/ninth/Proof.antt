@@ -3,13 +3,14 @@ use Prim.Native.Nat.{_+_, _-_, _≤_}
 use native.Mathlib.Omega.{arith}
 use lib.ListN.{length, drop}
 use borrow.Author.Needs.{needs}
+use Rattle.layout.specs.Layout.{mostDeep}
 use Rattle.layout.specs.Reading.{ninthFrom}
 use Rattle.layout.specs.SettledLaws.{ninth-here, ninth-on, ninth-past, opened-within}
 use Rattle.layout.proofs.ninth.Statement.{statement}
 use Rattle.layout.proofs.ninth.Tie as tie
 
 abbrev Inv-loop : tie.InvT-loop
-Inv-loop text at₀ held₀ at held = (at ≤ length text) × (held ≤ 8) × (ninthFrom 0 text ≡ at + ninthFrom held (drop at text))
+Inv-loop text at₀ held₀ at held = (at ≤ length text) × (held ≤ mostDeep) × (ninthFrom 0 text ≡ at + ninthFrom held (drop at text))
 
 abbrev μ-loop : tie.MeasureT-loop
 μ-loop text at₀ held₀ at held = length text - at

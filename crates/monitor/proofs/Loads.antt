@@ -1,0 +1,70 @@
+-- A load, by the rows that it meets: lengths, the order, the text's form and depth, and then its calls.
+-- Assumes nothing.
+use mathlib.Core.Path.{_≡_, sym, subst, _∙_}
+use mathlib.Core.Bool.{true, false}
+use mathlib.Core.List.{List}
+use Prim.Native.Nat.{ℕ, _≤_, _<_}
+use lib.ListN.{length}
+use borrow.Author.Tests.{le-leb, lt-leb}
+use Rattle.rows.specs.Size.{present}
+use Rattle.levels.specs.declared.Order.{Order}
+use Rattle.levels.specs.Order.{orderPasses}
+use Rattle.layout.specs.Reading.{settled}
+use Rattle.layout.specs.Answers.{textAnswer}
+use Rattle.layout.specs.declared.Text.the-variants.{Fits, Broken, Deep}
+use Rattle.model.specs.Verdicts.{granted, slipped, row-state, row-order, row-form, row-deep}
+use Rattle.model.specs.State.{Memory, lengthsFit}
+use Rattle.model.specs.Ready.{Ready}
+use Rattle.model.specs.Events.{Outcome, left}
+use Rattle.model.specs.Monitor.{refusal, started}
+use Rattle.model.specs.Load.{whole, laidOut, load, checked, layoutChecked}
+use Rattle.model.specs.SoundLaws.{started-sound}
+use Rattle.model.specs.ReadyLaws.{sound-ready}
+use Rattle.loading.specs.SettledLaws.{told-fits, told-broken, told-deep}
+use Rattle.monitor.proofs.Rows.{passed, stopped}
+
+-- ---- rows 2 and 3
+
+module _ (o : Order) (m : Memory) (t : List ℕ) where
+  pub load-unfit : lengthsFit m ≡ false → left row-state 0 (m .bytes) (m .words) ≡ load o m t
+  unfolding load
+  load-unfit e = sym (stopped _ row-state m _ e)
+
+  pub load-disordered : lengthsFit m ≡ true → orderPasses o ≡ false → left row-order 0 (m .bytes) (m .words) ≡ load o m t
+  unfolding load
+  load-disordered l e = sym (passed _ row-state m _ l ∙ stopped _ row-order m _ e)
+
+  pub load-laid : lengthsFit m ≡ true → orderPasses o ≡ true → laidOut o (settled t) ≡ load o m t
+  unfolding load
+  load-laid l p = sym (passed _ row-state m _ l ∙ passed _ row-order m _ p)
+
+-- ---- its calls
+
+-- the state of a start has passed them
+pub started-ready : (o : Order) (m : Memory) → orderPasses o ≡ true → m ≡ started o → Ready o (m .bytes) (m .words)
+started-ready o m p e = subst (λ (v : Memory). Ready o (v .bytes) (v .words)) (sym e) (sound-ready o (started o) p (started-sound present o p))
+
+-- calls that are all done leave what they made; a refused one leaves the state of a start
+module _ (o : Order) {out : Outcome} {v : ℕ} {bs ws : List ℕ} (is : left v 0 bs ws ≡ out) where
+  pub whole-done : v ≤ slipped → left v 0 bs ws ≡ whole o out
+  unfolding whole
+  whole-done l = rw (← is, le-leb v slipped l)
+
+  pub whole-refused : slipped < v → (m : Memory) → m ≡ started o → left v 0 (m .bytes) (m .words) ≡ whole o out
+  unfolding whole refusal
+  whole-refused l m e = rw (← is, lt-leb v slipped l, e)
+
+-- ---- what a text alone settles
+
+module _ (t : List ℕ) where
+  pub checked-fits : textAnswer (settled t) ≡ Fits → record { verdict = granted; offset = length t } ≡ layoutChecked t
+  unfolding layoutChecked checked
+  checked-fits e = rw (told-fits (settled t) e .1)
+
+  pub checked-broken : (place : ℕ) → textAnswer (settled t) ≡ Broken place → record { verdict = row-form; offset = place } ≡ layoutChecked t
+  unfolding layoutChecked checked
+  checked-broken place e = rw (told-broken (settled t) place e)
+
+  pub checked-deep : (place : ℕ) → textAnswer (settled t) ≡ Deep place → record { verdict = row-deep; offset = place } ≡ layoutChecked t
+  unfolding layoutChecked checked
+  checked-deep place e = rw (told-deep (settled t) place e)
