@@ -43,7 +43,7 @@ use denote.Exit.{yes}
 use Rattle.model.specs.State.{memory}
 use Rattle.model.specs.Events.{left}
 use Rattle.model.specs.Monitor.{raised}
-use Rattle.model.specs.Load.{load}
+use Rattle.model.specs.Load.{load as loaded}
 use Rattle.levels.specs.declared.Order.{Order}
 use Rattle.model.specs.declared.Tally.{Tally}
 use Rattle.model.specs.declared.Answer.{Answer}
@@ -74,8 +74,8 @@ Whole 𝓤 H A mem run = tripleOf 𝓤 H A counted.signature (counted.spec 𝓤 
 
 abbrev Did : List ℕ → List ℕ → Tally → Order → List ℕ → Counted → List ℕ → List ℕ → Type 0
 Did bs ws t o ls r xs ys =
-    (left (r .answer .verdict) (r .answer .rounds) xs ys ≡ load o (memory bs ws) ls)
-    × (r .tally ≡ raised t (load o (memory bs ws) ls .verdict))
+    (left (r .answer .verdict) (r .answer .rounds) xs ys ≡ loaded o (memory bs ws) ls)
+    × (r .tally ≡ raised t (loaded o (memory bs ws) ls .verdict))
 
 -- machine values
 abbrev mt : Tally → Val
