@@ -10,8 +10,9 @@ returns : tie.Need-returns
 returns c =
     let s : tie.Start = search in
     let l : tie.After-load = search in
+    let p : tie.After-plain = search in
     let n : tie.After-count = search in
-    (no-rounds (c .plain .ensures) (l .load .ensures), n .count .ensures ∙ ap (λ (out : Outcome). raised (s .args .tally) (out .verdict)) (l .load .ensures))
+    (no-rounds (p .plain .ensures) (l .load .ensures), n .count .ensures ∙ ap (λ (out : Outcome). raised (s .args .tally) (out .verdict)) (l .load .ensures))
 
 pub load-counted-spec : {M : Type 1} → statement M
 load-counted-spec = tie.close (tie.spec (λ c κs. search needs) (λ c κs. search needs) (λ c κs. search needs) (λ c. search needs) (λ c. search needs) returns)
