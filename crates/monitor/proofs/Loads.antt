@@ -1,42 +1,56 @@
--- A load, by the rows that it meets: lengths, the order, the text's form and depth, and then its calls.
+-- A load, by what it meets: a start's rows, the text's form and depth, and then its calls.
 -- Assumes nothing.
-use mathlib.Core.Path.{_≡_, sym, subst, _∙_}
-use mathlib.Core.Bool.{true, false}
+use mathlib.Core.Path.{_≡_, sym, ap, subst, _∙_}
+use mathlib.Core.Bool.{true}
+use mathlib.Core.Logic.{inl, inr}
 use mathlib.Core.List.{List}
 use Prim.Native.Nat.{ℕ, _≤_, _<_}
+use native.Mathlib.Omega.{arith}
 use lib.ListN.{length}
 use borrow.Author.Tests.{le-leb, lt-leb}
+use Rattle.bits.specs.AllLaws.{either}
 use Rattle.rows.specs.Size.{present}
 use Rattle.levels.specs.declared.Order.{Order}
 use Rattle.levels.specs.Order.{orderPasses}
 use Rattle.layout.specs.Reading.{settled}
 use Rattle.layout.specs.Answers.{textAnswer}
 use Rattle.layout.specs.declared.Text.the-variants.{Fits, Broken, Deep}
-use Rattle.model.specs.Verdicts.{granted, slipped, row-state, row-order, row-form, row-deep}
-use Rattle.model.specs.State.{Memory, lengthsFit}
+use Rattle.model.specs.Verdicts.{granted, slipped, isDone, row-state, row-order, row-form, row-deep}
+use Rattle.model.specs.State.{Memory, memory, lengthsFit}
 use Rattle.model.specs.Ready.{Ready}
 use Rattle.model.specs.Events.{Outcome, left}
-use Rattle.model.specs.Monitor.{refusal, started}
+use Rattle.model.specs.Monitor.{refusal, started, start}
 use Rattle.model.specs.Load.{whole, laidOut, load, checked, layoutChecked}
+use Rattle.model.specs.TableLaws.{start-done}
 use Rattle.model.specs.SoundLaws.{started-sound}
 use Rattle.model.specs.ReadyLaws.{sound-ready}
 use Rattle.loading.specs.SettledLaws.{told-fits, told-broken, told-deep}
 use Rattle.monitor.proofs.Rows.{passed, stopped}
 
--- ---- rows 2 and 3
+-- ---- a load begins as a start
 
 module _ (o : Order) (m : Memory) (t : List ℕ) where
-  pub load-unfit : lengthsFit m ≡ false → left row-state 0 (m .bytes) (m .words) ≡ load o m t
-  unfolding load
-  load-unfit e = sym (stopped _ row-state m _ e)
-
-  pub load-disordered : lengthsFit m ≡ true → orderPasses o ≡ false → left row-order 0 (m .bytes) (m .words) ≡ load o m t
-  unfolding load
-  load-disordered l e = sym (passed _ row-state m _ l ∙ stopped _ row-order m _ e)
-
   pub load-laid : lengthsFit m ≡ true → orderPasses o ≡ true → laidOut o (settled t) ≡ load o m t
   unfolding load
   load-laid l p = sym (passed _ row-state m _ l ∙ passed _ row-order m _ p)
+
+  module _ {v : ℕ} {bs ws : List ℕ} (is : left v 0 bs ws ≡ start o m) where
+    pub start-refused : slipped < v → left v 0 bs ws ≡ load o m t
+    unfolding start load
+    start-refused h =
+        elim (either (lengthsFit m)) [
+          | inl l ↦
+              elim (either (orderPasses o)) [
+                | inl p ↦ let z = ap (λ (out : Outcome). out .verdict) (is ∙ passed _ row-state m _ l ∙ passed _ row-order m _ p) in absurd (omega arith)
+                | inr p ↦ is ∙ passed _ row-state m _ l ∙ stopped _ row-order m _ p ∙ sym (passed _ row-state m _ l ∙ stopped _ row-order m _ p)
+              ]
+          | inr l ↦ is ∙ stopped _ row-state m _ l ∙ sym (stopped _ row-state m _ l)
+        ]
+
+    pub start-made : v ≤ slipped → (lengthsFit m ≡ true) × (orderPasses o ≡ true) × (memory bs ws ≡ started o)
+    start-made h =
+        let d = start-done o m (ap (λ (out : Outcome). isDone (out .verdict)) (sym is) ∙ le-leb v slipped h) in
+        (d .0, d .1, ap (λ (out : Outcome). out .memory) (is ∙ d .2))
 
 -- ---- its calls
 

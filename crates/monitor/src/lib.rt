@@ -265,17 +265,14 @@ fn make(bytes: &mut [u8], words: &mut [u64], order: Order, text: &[u8]) -> u8
     verdict
 }
 
-// A load tests lengths and the order only, as a start does, and then the text: its form, its depth, and its calls.
+// A load is a start, and then the text: its form, its depth, and its calls.
 fn load(bytes: &mut [u8], words: &mut [u64], order: Order, text: &[u8]) -> u8
     ensures { λ r. ⌜ left r 0 (now (bytes .exit)) (now (words .exit)) ≡ layouts.load order (memory (now (bytes .entry)) (now (words .entry))) (now (text .entry)) ⌝ }
 {
-    if !lengths_fit(bytes, words) {
-        return model::STATE;
+    let begun = start(bytes, words, order);
+    if begun > model::SLIPPED {
+        return begun;
     }
-    if !levels::order_passes(order) {
-        return model::ORDER;
-    }
-    set_up(bytes, words, order);
     match layout::check(text) {
         Text::Fits => make(bytes, words, order, text),
         Text::Broken { at: _ } => model::FORM,
@@ -295,10 +292,9 @@ pub fn load_counted(
         × (r .tally ≡ raised tally (layouts.load order (memory (now (bytes .entry)) (now (words .entry))) (now (text .entry)) .verdict)) ⌝ }
 {
     let verdict = load(bytes, words, order, text);
-    let next = count(tally, verdict);
     Counted {
         answer: plain(verdict),
-        tally: next,
+        tally: count(tally, verdict),
     }
 }
 

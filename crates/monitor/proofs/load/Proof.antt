@@ -1,130 +1,86 @@
+use mathlib.Core.Path.{_≡_, sym, ap, _∙_}
+use mathlib.Core.Bool.{true}
 use borrow.Author.Needs.{needs}
+use Rattle.levels.specs.Order.{orderPasses}
+use Rattle.model.specs.Verdicts.{row-form, row-deep}
+use Rattle.model.specs.State.{Memory, memory, lengthsFit}
+use Rattle.model.specs.Monitor.{refusal, started}
+use Rattle.model.specs.Load.{inTurn, whole}
+use Rattle.loading.specs.Calls.{callsIn}
+use Rattle.loading.specs.SettledLaws.{settled-fits, settled-broken, settled-deep}
+use Rattle.monitor.proofs.Loads.{load-laid, start-refused, start-made, started-ready}
 use Rattle.monitor.proofs.load.Statement.{statement}
 use Rattle.monitor.proofs.load.Tie as tie
-use Rattle.monitor.proofs.load.Reads as reads
-use Rattle.monitor.proofs.load.Lts as lts
-use Rattle.layout.proofs.check.Reads as check-reads
-use Rattle.levels.proofs.order_passes.Reads as order-passes-reads
-use Rattle.monitor.proofs.lengths_fit.Reads as lengths-fit-reads
-use Rattle.monitor.proofs.make.Reads as make-reads
-use Rattle.monitor.proofs.set_up.Reads as set-up-reads
 
--- src/lib.rt:272:9
-lengths-fit-requires : tie.Need-lengths-fit-requires
-lengths-fit-requires c κs = search needs
-
--- src/lib.rt:273:9
-same-length : tie.Need-same-length
-same-length c = search needs
-
--- src/lib.rt:273:9
-same-length-2 : tie.Need-same-length-2
-same-length-2 c = search needs
-
--- src/lib.rt:273:9
 returns : tie.Need-returns
-returns c = ?
+returns c =
+    let s : tie.Start = search in
+    let k : tie.After-start = search in
+    start-refused (s .args .order) _ (s .args .text .now) (k .start .ensures) (c .if1 .taken)
 
--- src/lib.rt:275:9
-order-passes-requires : tie.Need-order-passes-requires
-order-passes-requires c κs = search needs
+-- the state of a start is made
+abbrev begun : tie.Else1 → tie.Start
+begun c = c .before .before .before .before .before .before .before .before .before .before .before
 
--- src/lib.rt:276:9
-same-length-3 : tie.Need-same-length-3
-same-length-3 c = search needs
+abbrev after : tie.Else1 → tie.After-start
+after c = c .before .before .before .before .before
 
--- src/lib.rt:276:9
-same-length-4 : tie.Need-same-length-4
-same-length-4 c = search needs
+made : (c : tie.Else1) → (lengthsFit (memory (begun c .args .bytes .now) (begun c .args .words .now)) ≡ true) × (orderPasses (begun c .args .order) ≡ true)
+    × (memory (after c .start .last .0) (after c .start .last .1 .0) ≡ started (begun c .args .order))
+made c = start-made (begun c .args .order) _ (begun c .args .text .now) (after c .start .ensures) (c .if1 .left)
 
--- src/lib.rt:276:9
-returns-2 : tie.Need-returns-2
-returns-2 c = ?
-
--- src/lib.rt:278:5
-set-up-requires : tie.Need-set-up-requires
-set-up-requires c κs = ?
-
--- src/lib.rt:279:11
-check-requires : tie.Need-check-requires
-check-requires c κs = search needs
-
--- src/lib.rt:280:28
-enum-told : tie.Need-enum-told
-enum-told c = search needs
-
--- src/lib.rt:280:23
 make-requires : tie.Need-make-requires
-make-requires c κs = ?
+make-requires c κs = let e : tie.Else1 = search in started-ready (begun e .args .order) _ (made e .1) (made e .2)
 
--- src/lib.rt:281:35
-enum-told-2 : tie.Need-enum-told-2
-enum-told-2 c = search needs
+returns-2 : tie.Need-returns-2
+returns-2 c =
+    let e : tie.Else1 = search in
+    let k : tie.After-check = search in
+    let m : tie.After-make = search in
+    let t : tie.After-enum-told = search in
+    let a = begun e .args in
+    m .make .ensures ∙ ap (λ (v : Memory). whole (a .order) (inTurn (a .order) (callsIn (a .text .now)) v)) (made e .2)
+    ∙ sym (settled-fits (a .order) (a .text .now) (sym (k .check .ensures) ∙ t .enum-told .given .1)) ∙ load-laid (a .order) _ (a .text .now) (made e .0) (made e .1)
 
--- src/lib.rt:282:33
-enum-told-3 : tie.Need-enum-told-3
-enum-told-3 c = search needs
-
--- src/lib.rt:269:1
-same-length-5 : tie.Need-same-length-5
-same-length-5 c = search needs
-
--- src/lib.rt:269:1
-same-length-6 : tie.Need-same-length-6
-same-length-6 c = search needs
-
--- src/lib.rt:269:1
 returns-3 : tie.Need-returns-3
-returns-3 c = ?
+unfolding refusal
+returns-3 c =
+    let e : tie.Else1 = search in
+    let k : tie.After-check = search in
+    let t : tie.After-enum-told2 = search in
+    let a = begun e .args in
+    ap (λ (v : Memory). record { verdict = row-form; rounds = 0; memory = v }) (made e .2)
+    ∙ sym (settled-broken (a .order) (a .text .now) _ (sym (k .check .ensures) ∙ t .enum-told2 .given .1)) ∙ load-laid (a .order) _ (a .text .now) (made e .0) (made e .1)
 
--- src/lib.rt:269:1
-same-length-7 : tie.Need-same-length-7
-same-length-7 c = search needs
-
--- src/lib.rt:269:1
-same-length-8 : tie.Need-same-length-8
-same-length-8 c = search needs
-
--- src/lib.rt:269:1
 returns-4 : tie.Need-returns-4
-returns-4 c = ?
-
--- src/lib.rt:269:1
-same-length-9 : tie.Need-same-length-9
-same-length-9 c = search needs
-
--- src/lib.rt:269:1
-same-length-10 : tie.Need-same-length-10
-same-length-10 c = search needs
-
--- src/lib.rt:269:1
-returns-5 : tie.Need-returns-5
-returns-5 c = ?
+unfolding refusal
+returns-4 c =
+    let e : tie.Else1 = search in
+    let k : tie.After-check = search in
+    let t : tie.After-enum-told3 = search in
+    let a = begun e .args in
+    ap (λ (v : Memory). record { verdict = row-deep; rounds = 0; memory = v }) (made e .2)
+    ∙ sym (settled-deep (a .order) (a .text .now) _ (sym (k .check .ensures) ∙ t .enum-told3 .given .1)) ∙ load-laid (a .order) _ (a .text .now) (made e .0) (made e .1)
 
 pub load-spec : {M : Type 1} → statement M
 load-spec =
     tie.close
     (tie.spec
-    lengths-fit-requires
-    same-length
-    same-length-2
+    (λ c κs. search needs)
+    (λ c. search needs)
+    (λ c. search needs)
     returns
-    order-passes-requires
-    same-length-3
-    same-length-4
-    returns-2
-    set-up-requires
-    check-requires
-    enum-told
+    (λ c κs. search needs)
+    (λ c. search needs)
     make-requires
-    enum-told-2
-    enum-told-3
-    same-length-5
-    same-length-6
+    (λ c. search needs)
+    (λ c. search needs)
+    (λ c. search needs)
+    (λ c. search needs)
+    returns-2
+    (λ c. search needs)
+    (λ c. search needs)
     returns-3
-    same-length-7
-    same-length-8
-    returns-4
-    same-length-9
-    same-length-10
-    returns-5)
+    (λ c. search needs)
+    (λ c. search needs)
+    returns-4)

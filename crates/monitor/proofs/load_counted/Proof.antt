@@ -1,37 +1,18 @@
+use mathlib.Core.Path.{_∙_, ap}
+use Rattle.model.specs.Events.{Outcome}
+use Rattle.model.specs.Monitor.{raised}
 use borrow.Author.Needs.{needs}
+use Rattle.monitor.proofs.Rows.{no-rounds}
 use Rattle.monitor.proofs.load_counted.Statement.{statement}
 use Rattle.monitor.proofs.load_counted.Tie as tie
-use Rattle.monitor.proofs.load_counted.Reads as reads
-use Rattle.monitor.proofs.load_counted.Lts as lts
-use Rattle.monitor.proofs.count.Reads as count-reads
-use Rattle.monitor.proofs.load.Reads as load-reads
-use Rattle.monitor.proofs.plain.Reads as plain-reads
 
--- src/lib.rt:297:9
-load-requires : tie.Need-load-requires
-load-requires c κs = search needs
-
--- src/lib.rt:298:9
-count-requires : tie.Need-count-requires
-count-requires c κs = search needs
-
--- src/lib.rt:300:17
-plain-requires : tie.Need-plain-requires
-plain-requires c κs = search needs
-
--- src/lib.rt:287:1
-same-length : tie.Need-same-length
-same-length c = search needs
-
--- src/lib.rt:287:1
-same-length-2 : tie.Need-same-length-2
-same-length-2 c = search needs
-
--- src/lib.rt:287:1
 returns : tie.Need-returns
-returns c = ?
+returns c =
+    let s : tie.Start = search in
+    let l : tie.After-load = search in
+    let p : tie.After-plain = search in
+    let n : tie.After-count = search in
+    (no-rounds (p .plain .ensures) (l .load .ensures), n .count .ensures ∙ ap (λ (out : Outcome). raised (s .args .tally) (out .verdict)) (l .load .ensures))
 
 pub load-counted-spec : {M : Type 1} → statement M
-load-counted-spec =
-    tie.close
-    (tie.spec load-requires count-requires plain-requires same-length same-length-2 returns)
+load-counted-spec = tie.close (tie.spec (λ c κs. search needs) (λ c κs. search needs) (λ c κs. search needs) (λ c. search needs) (λ c. search needs) returns)

@@ -1,52 +1,32 @@
+use mathlib.Core.Path.{_∙_}
 use borrow.Author.Needs.{needs}
+use borrow.Author.Tests.{eq-eqb}
+use Rattle.bits.specs.AllLaws.{and-i}
+use Rattle.model.specs.State.{memory, lengthsFit}
+use Rattle.monitor.proofs.Loads.{whole-done, whole-refused}
 use Rattle.monitor.proofs.make.Statement.{statement}
 use Rattle.monitor.proofs.make.Tie as tie
-use Rattle.monitor.proofs.make.Reads as reads
-use Rattle.monitor.proofs.make.Lts as lts
-use Rattle.loading.proofs.lay_out.Reads as lay-out-reads
-use Rattle.monitor.proofs.set_up.Reads as set-up-reads
 
--- src/lib.rt:261:9
-lay-out-requires : tie.Need-lay-out-requires
-lay-out-requires c κs = search needs
-
--- src/lib.rt:263:9
 set-up-requires : tie.Need-set-up-requires
-set-up-requires c κs = ?
+unfolding lengthsFit
+set-up-requires c κs =
+    let s : tie.Start = search in
+    let k : tie.After-lay-out = search in
+    (and-i (eq-eqb _ _ (k .lay-out .kept .0 ∙ s .pre .0)) (eq-eqb _ _ (k .lay-out .kept .1 .0 ∙ s .pre .1)), s .pre .2)
 
--- src/lib.rt:257:1
-same-length : tie.Need-same-length
-same-length c = search needs
-
--- src/lib.rt:257:1
-same-length-2 : tie.Need-same-length-2
-same-length-2 c = search needs
-
--- src/lib.rt:257:1
 returns : tie.Need-returns
-returns c = ?
+returns c =
+    let s : tie.Start = search in
+    let k : tie.After-lay-out = search in
+    let e : tie.Then1 = search in
+    let u : tie.After-set-up = search in
+    whole-refused (s .args .order) (k .lay-out .ensures) (e .if1 .taken) _ (u .set-up .ensures)
 
--- src/lib.rt:257:1
-same-length-3 : tie.Need-same-length-3
-same-length-3 c = search needs
-
--- src/lib.rt:257:1
-same-length-4 : tie.Need-same-length-4
-same-length-4 c = search needs
-
--- src/lib.rt:257:1
 returns-2 : tie.Need-returns-2
-returns-2 c = ?
+returns-2 c =
+    let s : tie.Start = search in
+    let k : tie.After-lay-out = search in
+    whole-done (s .args .order) (k .lay-out .ensures) (c .if1 .left)
 
 pub make-spec : {M : Type 1} → statement M
-make-spec =
-    tie.close
-    (tie.spec
-    lay-out-requires
-    set-up-requires
-    same-length
-    same-length-2
-    returns
-    same-length-3
-    same-length-4
-    returns-2)
+make-spec = tie.close (tie.spec (λ c κs. search needs) set-up-requires (λ c. search needs) (λ c. search needs) returns (λ c. search needs) (λ c. search needs) returns-2)

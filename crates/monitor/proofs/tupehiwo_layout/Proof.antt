@@ -1,61 +1,54 @@
+use mathlib.Core.Path.{_≡_, sym, _∙_}
+use mathlib.Core.Logic.{inl, inr}
+use native.Mathlib.Omega.{arith}
 use borrow.Author.Needs.{needs}
+use Rattle.layout.specs.Reading.{settled}
+use Rattle.layout.specs.Answers.{textAnswer}
+use Rattle.layout.specs.declared.Text.the-variants.{Fits, Broken, Deep}
+use Rattle.layout.specs.Proved.{settles-all}
+use Rattle.loading.specs.SettledLaws.{told-fits, told-broken, told-deep, place-small}
+use Rattle.monitor.proofs.Loads.{checked-fits, checked-broken, checked-deep}
 use Rattle.monitor.proofs.tupehiwo_layout.Statement.{statement}
 use Rattle.monitor.proofs.tupehiwo_layout.Tie as tie
-use Rattle.monitor.proofs.tupehiwo_layout.Reads as reads
-use Rattle.monitor.proofs.tupehiwo_layout.Lts as lts
-use Rattle.layout.proofs.check.Reads as check-reads
 
--- src/lib.rt:346:11
-check-requires : tie.Need-check-requires
-check-requires c κs = search needs
+-- what the reader answered is what the text settles
+fits : (c : tie.After-enum-told) → textAnswer (settled (c .before .before .before .before .args .text .now)) ≡ Fits
+fits c = let k : tie.After-check = search in sym (k .check .ensures) ∙ c .enum-told .given .1
 
--- src/lib.rt:348:21
-enum-told : tie.Need-enum-told
-enum-told c = search needs
+broken-at : (c : tie.After-at) → textAnswer (settled (c .before .before .before .before .args .text .now)) ≡ Broken (c .at .given .0 .0)
+broken-at c = let k : tie.After-check = search in sym (k .check .ensures) ∙ c .at .given .1
 
--- src/lib.rt:348:21
+deep-at : (c : tie.After-at2) → textAnswer (settled (c .before .before .before .before .args .text .now)) ≡ Deep (c .at2 .given .0 .0)
+deep-at c = let k : tie.After-check = search in sym (k .check .ensures) ∙ c .at2 .given .1
+
 cast-t7 : tie.Need-cast-t7
-cast-t7 c = ?
+cast-t7 c =
+    let k : tie.After-enum-told = search in
+    let t = k .before .before .before .before .args .text .now in
+    let f = told-fits (settled t) (fits k) in
+    let q = settles-all t (f .0) .0 (f .1) in
+    omega (arith, q .3)
 
--- src/lib.rt:351:24
-enum-known-at : tie.Need-enum-known-at
-enum-known-at c = search needs
-
--- src/lib.rt:352:21
 cast-t8 : tie.Need-cast-t8
-cast-t8 c = ?
+cast-t8 c =
+    let k : tie.After-at = search in
+    let t = k .before .before .before .before .args .text .now in
+    omega (arith, place-small t _ (inl (told-broken (settled t) _ (broken-at k))))
 
--- src/lib.rt:355:22
-enum-known-at-2 : tie.Need-enum-known-at-2
-enum-known-at-2 c = search needs
-
--- src/lib.rt:356:21
 cast-t9 : tie.Need-cast-t9
-cast-t9 c = ?
+cast-t9 c =
+    let k : tie.After-at2 = search in
+    let t = k .before .before .before .before .args .text .now in
+    omega (arith, place-small t _ (inr (told-deep (settled t) _ (deep-at k))))
 
--- src/lib.rt:342:1
 returns : tie.Need-returns
-returns c = ?
+returns c = let k : tie.After-enum-told = search in checked-fits _ (fits k)
 
--- src/lib.rt:342:1
 returns-2 : tie.Need-returns-2
-returns-2 c = ?
+returns-2 c = let k : tie.After-at = search in checked-broken _ _ (broken-at k)
 
--- src/lib.rt:342:1
 returns-3 : tie.Need-returns-3
-returns-3 c = ?
+returns-3 c = let k : tie.After-at2 = search in checked-deep _ _ (deep-at k)
 
 pub tupehiwo-layout-spec : {M : Type 1} → statement M
-tupehiwo-layout-spec =
-    tie.close
-    (tie.spec
-    check-requires
-    enum-told
-    cast-t7
-    enum-known-at
-    cast-t8
-    enum-known-at-2
-    cast-t9
-    returns
-    returns-2
-    returns-3)
+tupehiwo-layout-spec = tie.close (tie.spec (λ c κs. search needs) (λ c. search needs) cast-t7 (λ c. search needs) cast-t8 (λ c. search needs) cast-t9 returns returns-2 returns-3)

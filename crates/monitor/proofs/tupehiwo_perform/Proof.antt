@@ -46,7 +46,6 @@ use Rattle.model.specs.Monitor.{perform, raised}
 use Rattle.monitor.specs.Request.{callOf}
 use Rattle.levels.specs.declared.Order.{Order}
 use Rattle.model.specs.declared.Tally.{Tally}
-use Rattle.model.specs.declared.Answer.{Answer}
 use Rattle.monitor.specs.declared.Counted.{Counted}
 use Rattle.monitor.specs.declared.Request.{Request}
 use Rattle.levels.proofs.Order as O
@@ -55,6 +54,7 @@ use Rattle.model.proofs.Tally as T
 use Rattle.model.proofs.Tally.Laws as T′
 use Rattle.model.proofs.Answer as N
 use Rattle.model.proofs.Answer.Laws as N′
+use Rattle.monitor.proofs.Thin.{mt, mn, answer-is, tally-is}
 use Rattle.monitor.proofs.Counted as R
 use Rattle.monitor.proofs.Counted.Laws as R′
 use Rattle.monitor.proofs.Request as E
@@ -79,16 +79,6 @@ abbrev Did : List ℕ → List ℕ → Tally → Order → Request → Counted �
 Did bs ws t o k r xs ys =
     (left (r .answer .verdict) (r .answer .rounds) xs ys ≡ perform o (memory bs ws) (callOf k))
     × (r .tally ≡ raised t (perform o (memory bs ws) (callOf k) .verdict))
-
--- machine values
-abbrev mt : Tally → Val
-mt t = LL.val T.the-type T′.the-laws t
-
-abbrev mn : Answer → Val
-mn n = LL.val N.the-type N′.the-laws n
-
-abbrev mr : Counted → Val
-mr r = LL.val R.the-type R′.the-laws r
 
 module _ {M : Type 1} (𝓤 : URA M) (H : Heap 𝓤) (A : Atoms 𝓤) (W : Given 𝓤 H A) (at-mem : Memory → SProp 𝓤) (run : Routine → Fun 𝓤) (κ₀ κ₁ κ₂ : Lft) (q₀ q₁ q₂ : Share)
     (b₀ o₀ : ℕ) (γ₀ : GName) (bs : List ℕ) (b₁ o₁ : ℕ) (γ₁ : GName) (ws : List ℕ) (b₂ o₂ : ℕ) (γ₂ : GName) (t : Tally) (o : Order) (k : Request) (mo mk : Val)
@@ -150,13 +140,6 @@ module _ {M : Type 1} (𝓤 : URA M) (H : Heap 𝓤) (A : Atoms 𝓤) (W : Given
       nothing ! $ owned ! E.the-row (Is E.the-row) (LL.makes E.the-type E′.the-plain 𝓤 H A) k _ k-is $ fjoin ! $ owned ! O.the-row (Is O.the-row) (LL.makes O.the-type O′.the-plain 𝓤 H A) o _ o-is $ fjoin ! $
       move ! (1 ∷ 0 ∷ []) $ fjoin ! $ move ! (2 ∷ 0 ∷ []) $ fjoin ! $ move ! (1 ∷ 0 ∷ []) $ fjoin ! $
       owned ! N.the-row (Is N.the-row) (LL.makes N.the-type N′.the-plain 𝓤 H A) (r .answer) _ n-is $ move ! (1 ∷ 0 ∷ []) $ done !
-
-  -- what whoever holds an outcome knows of its fields
-  answer-is : (r : Counted) (w : Val) → Is R.the-row r (w ∷ []) → Is N.the-row (r .answer) (mn (r .answer) ∷ [])
-  answer-is r w is = LL.owed R.the-type R′.the-laws r _ is .0
-
-  tally-is : (r : Counted) (w : Val) → Is R.the-row r (w ∷ []) → Is T.the-row (r .tally) (mt (r .tally) ∷ [])
-  tally-is r w is = LL.owed R.the-type R′.the-laws r _ is .1 .0
 
   module _ (C : Calls 𝓤 H) (Λ : Loops 𝓤 H) (fm : FmC 𝓤 H (W .laws) C) (known : Triple 𝓤 (C #monitor·perform-request) (Whole 𝓤 H A at-mem run)) where
     walk : Room u8 (length bs) → Room u64 (length ws) → ent 𝓤 (onEntry 𝓤 H A thin.signature (κ₀, (κ₁, (κ₂, tt))) (q₀, (q₁, (q₂, tt))) a vals) (WpFn 𝓤 H C Λ code.function (s₀ ∷ s₁ ∷ vptr b₂ o₂ ∷ mo ∷ mk ∷ []) Post)
