@@ -32,8 +32,8 @@
  * objects, up to eight deep. Closing brackets stand at a line's end, one space
  * parts words, a line feed ends each line, the last too, and nothing else stands
  * anywhere: no tab, no empty line, no remark. A number has at most three digits and
- * no leading zero. A text has at most 16 KiB and may be empty. What a form names as
- * its driver or its image has to stand before it, or to be the core.
+ * no leading zero. A text has at most 16 KiB and may be empty. The driver or image
+ * that a form names has to stand before it; the core, task 0, is there already.
  */
 #ifndef TUPEHIWO_H
 #define TUPEHIWO_H

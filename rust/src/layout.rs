@@ -12,8 +12,9 @@
 //! objects, up to eight deep. Closing brackets stand at a line's end, one space
 //! parts words, a line feed ends each line, the last too, and nothing else stands
 //! anywhere: no tab, no empty line, no remark. A number has at most three digits
-//! and no leading zero. What a form names as its driver or its image has to stand
-//! before it, or to be the core, task 0.
+//! and no leading zero. A text has at most 16 KiB and may be empty. The driver or
+//! image that a form names has to stand before it; the core, task 0, is there
+//! already.
 //!
 //! [`Monitor::load`](crate::Monitor::load) begins anew with a layout; [`check`] says
 //! where a text is no layout's.
