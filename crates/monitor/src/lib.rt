@@ -8,7 +8,7 @@ ghost use Rattle.model.specs.Ready.{Ready};
 ghost use Rattle.model.specs.Events.{left};
 ghost use Rattle.model.specs.Monitor as model;
 ghost use Rattle.model.specs.Monitor.{raised, oneMore, started, nextMarked};
-ghost use Rattle.model.specs.Load as layouts;
+ghost use Rattle.model.specs.Load as loads;
 ghost use Rattle.model.specs.Load.{inTurn, whole, layoutChecked};
 ghost use Rattle.loading.specs.Calls.{callsIn};
 ghost use Rattle.monitor.specs.Request.{callOf};
@@ -253,6 +253,24 @@ pub fn perform_request(
     perform(bytes, words, tally, order, call)
 }
 
+// The thin function over the lent tally, and what C and Rust call.
+#[no_mangle]
+pub extern "C" fn tupehiwo_perform(
+    bytes: &mut [u8],
+    words: &mut [u64],
+    tally: &mut Tally,
+    order: Order,
+    request: Request,
+) -> Answer
+    ensures { λ r. ⌜ (left (r .verdict) (r .rounds) (now (bytes .exit)) (now (words .exit)) ≡ model.perform order (memory (now (bytes .entry)) (now (words .entry))) (callOf request))
+        × (now (tally .exit) ≡ raised (now (tally .entry)) (model.perform order (memory (now (bytes .entry)) (now (words .entry))) (callOf request) .verdict)) ⌝ }
+{
+    let before = *tally;
+    let done = perform_request(bytes, words, before, order, request);
+    *tally = done.tally;
+    done.answer
+}
+
 // The calls of a layout's text on the state of a start, which is left again if one of them is refused.
 fn make(bytes: &mut [u8], words: &mut [u64], order: Order, text: &[u8]) -> u8
     requires { ⌜ Ready order (now bytes) (now words) ⌝ }
@@ -267,7 +285,7 @@ fn make(bytes: &mut [u8], words: &mut [u64], order: Order, text: &[u8]) -> u8
 
 // A load is a start, and then the text: its form, its depth, and its calls.
 fn load(bytes: &mut [u8], words: &mut [u64], order: Order, text: &[u8]) -> u8
-    ensures { λ r. ⌜ left r 0 (now (bytes .exit)) (now (words .exit)) ≡ layouts.load order (memory (now (bytes .entry)) (now (words .entry))) (now (text .entry)) ⌝ }
+    ensures { λ r. ⌜ left r 0 (now (bytes .exit)) (now (words .exit)) ≡ loads.load order (memory (now (bytes .entry)) (now (words .entry))) (now (text .entry)) ⌝ }
 {
     let begun = start(bytes, words, order);
     if begun > model::SLIPPED {
@@ -288,8 +306,8 @@ pub fn load_counted(
     order: Order,
     text: &[u8],
 ) -> Counted
-    ensures { λ r. ⌜ (left (r .answer .verdict) (r .answer .rounds) (now (bytes .exit)) (now (words .exit)) ≡ layouts.load order (memory (now (bytes .entry)) (now (words .entry))) (now (text .entry)))
-        × (r .tally ≡ raised tally (layouts.load order (memory (now (bytes .entry)) (now (words .entry))) (now (text .entry)) .verdict)) ⌝ }
+    ensures { λ r. ⌜ (left (r .answer .verdict) (r .answer .rounds) (now (bytes .exit)) (now (words .exit)) ≡ loads.load order (memory (now (bytes .entry)) (now (words .entry))) (now (text .entry)))
+        × (r .tally ≡ raised tally (loads.load order (memory (now (bytes .entry)) (now (words .entry))) (now (text .entry)) .verdict)) ⌝ }
 {
     let verdict = load(bytes, words, order, text);
     Counted {
@@ -298,25 +316,7 @@ pub fn load_counted(
     }
 }
 
-// The one thin function over the lent tally, and what C and Rust call.
-#[no_mangle]
-pub extern "C" fn tupehiwo_perform(
-    bytes: &mut [u8],
-    words: &mut [u64],
-    tally: &mut Tally,
-    order: Order,
-    request: Request,
-) -> Answer
-    ensures { λ r. ⌜ (left (r .verdict) (r .rounds) (now (bytes .exit)) (now (words .exit)) ≡ model.perform order (memory (now (bytes .entry)) (now (words .entry))) (callOf request))
-        × (now (tally .exit) ≡ raised (now (tally .entry)) (model.perform order (memory (now (bytes .entry)) (now (words .entry))) (callOf request) .verdict)) ⌝ }
-{
-    let before = *tally;
-    let done = perform_request(bytes, words, before, order, request);
-    *tally = done.tally;
-    done.answer
-}
-
-// The same for a load.
+// A load over the lent tally: as C and Rust call it.
 #[no_mangle]
 pub extern "C" fn tupehiwo_load(
     bytes: &mut [u8],
@@ -325,8 +325,8 @@ pub extern "C" fn tupehiwo_load(
     order: Order,
     text: &[u8],
 ) -> Answer
-    ensures { λ r. ⌜ (left (r .verdict) (r .rounds) (now (bytes .exit)) (now (words .exit)) ≡ layouts.load order (memory (now (bytes .entry)) (now (words .entry))) (now (text .entry)))
-        × (now (tally .exit) ≡ raised (now (tally .entry)) (layouts.load order (memory (now (bytes .entry)) (now (words .entry))) (now (text .entry)) .verdict)) ⌝ }
+    ensures { λ r. ⌜ (left (r .verdict) (r .rounds) (now (bytes .exit)) (now (words .exit)) ≡ loads.load order (memory (now (bytes .entry)) (now (words .entry))) (now (text .entry)))
+        × (now (tally .exit) ≡ raised (now (tally .entry)) (loads.load order (memory (now (bytes .entry)) (now (words .entry))) (now (text .entry)) .verdict)) ⌝ }
 {
     let before = *tally;
     let done = load_counted(bytes, words, before, order, text);
@@ -334,7 +334,7 @@ pub extern "C" fn tupehiwo_load(
     done.answer
 }
 
-// What a load would answer to a text before any call, and where the reader left: as C and Rust call it.
+// What a load would answer to a text before any call, with the place of the fault: as C and Rust call it.
 #[no_mangle]
 pub extern "C" fn tupehiwo_layout(text: &[u8]) -> Checked
     ensures { λ r. ⌜ r ≡ layoutChecked (now (text .entry)) ⌝ }
