@@ -1,4 +1,4 @@
--- A bit of a number.
+-- A bit of a number, and four bytes as one number.
 -- Assumes nothing.
 use mathlib.Core.Bool.{Bool, cond}
 use mathlib.Core.List.{List, [], _∷_}
@@ -27,3 +27,7 @@ wordsBy (suc n) f = f 0 ∷ wordsBy n (λ j. f (suc j))
 -- the n words whose numbers are those that pass: bit i of word j is that of 64 * j + i
 unfoldable pub wordsOf : ℕ → (ℕ → Bool) → List ℕ
 wordsOf n p = wordsBy n (λ j. wordOf (λ i. p (64 * j + i)))
+
+-- four bytes as one number, the first lowest
+abbrev pub joined : ℕ → ℕ → ℕ → ℕ → ℕ
+joined a b c d = a + b * 0x100 + c * 0x1_0000 + d * 0x100_0000

@@ -2,8 +2,9 @@
 -- Assumes nothing.
 use mathlib.Core.Path.{_≡_}
 use mathlib.Core.List.{List}
-use Prim.Native.Nat.{ℕ, _+_, _-_, _*_, _<_}
+use Prim.Native.Nat.{ℕ, _+_, _-_, _<_}
 use lib.ListN.{length, getD}
+use Rattle.bits.specs.Bit.{joined}
 use Rattle.layout.specs.Layout.{Object, Task, Objects}
 use Rattle.layout.specs.Reading.{Reading}
 use Rattle.layout.specs.Answers.{fieldAnswer, headAnswer, taskAnswer, objectAnswer}
@@ -15,10 +16,6 @@ use Rattle.layout.specs.declared.fields.Running.{Running}
 use Rattle.layout.specs.declared.fields.Running.the-variants.{Runs, Idle}
 use Rattle.layout.specs.declared.Answer.{Answer}
 use Rattle.layout.specs.declared.Answer.the-variants.{Read, Unread}
-
--- four bytes as one number, the first lowest
-abbrev pub joined : ℕ → ℕ → ℕ → ℕ → ℕ
-joined a b c d = a + b * 0x100 + c * 0x1_0000 + d * 0x100_0000
 
 unfoldable pub quadAt : List ℕ → ℕ → ℕ
 quadAt l at = joined (getD l at 0) (getD l (at + 1) 0) (getD l (at + 2) 0) (getD l (at + 3) 0)

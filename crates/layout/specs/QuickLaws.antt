@@ -9,12 +9,13 @@ use native.Mathlib.Decide.{decLt}
 use lib.Dec.{ltb}
 use lib.ListN.{length, getD, drop}
 use borrow.Author.Tests.{eq-eqb, ltb-true}
+use Rattle.bits.specs.Bit.{joined}
 use Rattle.bits.specs.AllLaws.{and-l, and-r}
 use Rattle.layout.specs.Reading.{Reading, field, number}
 use Rattle.layout.specs.Layout.{Object, Task, Objects}
 use Rattle.layout.specs.Answers.{fieldAnswer, headAnswer, taskAnswer, objectAnswer}
 use Rattle.layout.specs.PlaceLaws.{Goes, field-got, word-step, word-end}
-use Rattle.layout.specs.Quick.{joined, quadAt, IsWord, QuickField, QuickHead, QuickTask, QuickObject}
+use Rattle.layout.specs.Quick.{quadAt, IsWord, QuickField, QuickHead, QuickTask, QuickObject}
 use Rattle.layout.specs.declared.fields.Field.{Field}
 use Rattle.layout.specs.declared.fields.Field.the-variants.{Number, Missing}
 use Rattle.layout.specs.declared.fields.Heading.{Heading}

@@ -5,7 +5,8 @@ ghost use Prim.Native.Nat.{ℕ, _+_, _≤_, _<_};
 ghost use lib.ListN.{length, drop, getD};
 ghost use Rattle.layout.specs.Reading.{number, field, head, taskAt};
 ghost use Rattle.layout.specs.Answers.{digitAt, standsAt, fieldAnswer, leftField, headAnswer, leftHead, taskAnswer, leftTask};
-ghost use Rattle.layout.specs.Quick.{joined, quadAt, IsWord, QuickField, QuickHead, QuickTask};
+ghost use Rattle.layout.specs.Quick.{quadAt, IsWord, QuickField, QuickHead, QuickTask};
+use bits::join;
 
 // A number and where it ends, or where the reader leaves.
 pub enum Field {
@@ -236,15 +237,8 @@ pub fn left_task(running: Running) -> usize
 
 // ---- the quick reader compares a word's first and last four bytes, each as one number. It may leave any text to the other one, which finds the place.
 
-// Four bytes as one number, the first lowest.
-fn join(a: u8, b: u8, c: u8, d: u8) -> u32
-    ensures { λ r. ⌜ r ≡ joined a b c d ⌝ }
-{
-    (a as u32) + (b as u32) * 0x100 + (c as u32) * 0x1_0000 + (d as u32) * 0x100_0000
-}
-
 // The four bytes at `at` as one number; the text is known to be of bytes where one is read.
-fn quad(text: &[u8], at: usize) -> u32
+fn quad(text: &[u8], at: usize) -> usize
     requires { ⌜ at + 4 ≤ length (now text) ⌝ }
     ensures { λ r. ⌜ (r ≡ quadAt (now (text .entry)) at) × ((i : ℕ) → getD (now (text .entry)) i 0 < 0x100) ⌝ }
 {
@@ -252,7 +246,7 @@ fn quad(text: &[u8], at: usize) -> u32
 }
 
 // The word of a size that begins and ends with these four bytes, and the number after it.
-fn quick_field(text: &[u8], at: usize, size: usize, first: u32, last: u32) -> Field
+fn quick_field(text: &[u8], at: usize, size: usize, first: usize, last: usize) -> Field
     requires { ⌜ (at ≤ length (now text)) × (4 ≤ size) × (size ≤ 8) ⌝ }
     ensures { λ r. ⌜ ((w : List ℕ) → IsWord w size first last → QuickField (length (now (text .entry))) (field w (drop at (now (text .entry)))) r) ⌝ }
 {

@@ -1,16 +1,16 @@
 -- What the calls of a text are at each form, and that those of a layout's text are the layout's.
 -- Assumes nothing.
-use mathlib.Core.Path.{_≡_, refl, sym, ap, _∙_}
-use mathlib.Core.Bool.{Bool, true, false, cond}
+use mathlib.Core.Path.{_≡_, refl, ap, _∙_}
+use mathlib.Core.Bool.{true, false, cond}
 use mathlib.Core.List.{List, [], _∷_, _++_, append-assoc}
 use Prim.Native.Nat.{ℕ, zero, suc, _+_, _-_, _*_, _≤_, _<_}
 use native.Mathlib.Numerals.{add-one}
 use native.Mathlib.Omega.{arith}
-use lib.Dec.{ltb, eqb}
+use lib.Dec.{ltb}
 use lib.ListN.{length, getD, set, length-set}
 use lib.Seq.{getD-set-same, getD-set-other}
 use borrow.Author.Tests.{eqb-false, ne-eqb, lt-ltb, le-ltb}
-use Rattle.layout.specs.Layout.{Object, Task, Objects, none, object, Form, root, task, Layout, depthOf, formDepth, depth, mostDeep, ObjectFits, TaskFits, ObjectsFit, FormFits, Fits, lineFeed, opening, closing, objectWord, taskWord, fieldText, headText, innerText, objectText, taskText, formText, written}
+use Rattle.layout.specs.Layout.{Object, Task, Objects, none, object, root, task, Layout, depthOf, formDepth, depth, mostDeep, ObjectFits, TaskFits, ObjectsFit, FormFits, Fits, lineFeed, opening, closing, objectWord, taskWord, fieldText, headText, innerText, objectText, taskText, formText, written}
 use Rattle.layout.specs.Reading.{Reading, found, lost, head, taskAt}
 use Rattle.layout.specs.Answers.{standsAt}
 use Rattle.layout.specs.NumberLaws.{head-written, head-read, head-longer, task-written, task-read, task-longer}

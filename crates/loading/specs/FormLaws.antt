@@ -1,7 +1,6 @@
 -- What the calls at a place are, by what the reader answers there.
 -- Assumes nothing.
-use mathlib.Core.Path.{_≡_, refl, sym, ap, _∙_}
-use mathlib.Core.Bool.{true, false}
+use mathlib.Core.Path.{_≡_, refl, sym}
 use mathlib.Core.List.{List, [], _∷_, _++_}
 use Prim.Native.Nat.{ℕ, _+_, _-_, _*_, _≤_, _<_}
 use native.Mathlib.Omega.{arith}
@@ -11,9 +10,7 @@ use Rattle.layout.specs.Layout.{Object, Task, mostDeep, lineFeed, closing}
 use Rattle.layout.specs.Reading.{Reading, found, lost, head, taskAt}
 use Rattle.layout.specs.Answers.{headAnswer, taskAnswer}
 use Rattle.layout.specs.PlaceLaws.{Goes, cons-at, head-got, task-got}
-use Rattle.layout.specs.declared.fields.Heading.{Heading}
 use Rattle.layout.specs.declared.fields.Heading.the-variants.{Holds, Headless}
-use Rattle.layout.specs.declared.fields.Running.{Running}
 use Rattle.layout.specs.declared.fields.Running.the-variants.{Runs, Idle}
 use Rattle.model.specs.declared.Call.{Call}
 use Rattle.model.specs.State.{Memory}

@@ -1,14 +1,14 @@
 -- What the reader's answer to a text tells: what the text settles, the places of its faults, and a load of it past row 3.
 -- Assumes nothing.
 use mathlib.Core.Path.{_≡_, refl, sym, ap, _∙_}
-use mathlib.Core.Bool.{Bool, true, false, cond}
+use mathlib.Core.Bool.{Bool, true, false}
 use mathlib.Core.Logic.{_⊎_, inl, inr}
 use mathlib.Core.List.{List}
 use Prim.Native.Nat.{ℕ, _≤_}
 use native.Mathlib.Omega.{arith}
 use lib.Dec.{ltb}
 use lib.ListN.{length}
-use borrow.Author.Tests.{ltb-true, ltb-false, le-ltb, lt-ltb}
+use borrow.Author.Tests.{ltb-false}
 use Rattle.levels.specs.declared.Order.{Order}
 use Rattle.layout.specs.Layout.{Layout, mostBytes}
 use Rattle.layout.specs.Reading.{Settled, fits, broken, deep, settled}
@@ -19,7 +19,7 @@ use Rattle.model.specs.declared.Call.{Call}
 use Rattle.model.specs.Verdicts.{row-form, row-deep}
 use Rattle.model.specs.Events.{Outcome}
 use Rattle.model.specs.Monitor.{refusal, started}
-use Rattle.model.specs.Load.{layoutCalls, inTurn, whole, laidOut}
+use Rattle.model.specs.Load.{inTurn, whole, laidOut}
 use Rattle.loading.specs.Calls.{callsIn}
 use Rattle.loading.specs.CallsLaws.{layout-calls}
 

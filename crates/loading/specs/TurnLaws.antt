@@ -4,9 +4,7 @@ use mathlib.Core.Path.{_≡_, refl, sym, ap, subst, _∙_}
 use mathlib.Core.Bool.{Bool, true, false, cond}
 use mathlib.Core.List.{List, [], _∷_, _++_}
 use Prim.Native.Nat.{ℕ, _≤_, _<_}
-use lib.Dec.{leb}
 use borrow.Author.Tests.{le-leb, lt-leb}
-use Rattle.bits.specs.AllLaws.{either}
 use Rattle.levels.specs.declared.Order.{Order}
 use Rattle.model.specs.declared.Call.{Call}
 use Rattle.model.specs.Verdicts.{granted, slipped, isDone}

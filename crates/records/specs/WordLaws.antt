@@ -14,15 +14,12 @@ use mir.Val.{Fits}
 use borrow.Author.Tests.{eqb-true, eqb-false, eq-eqb, ne-eqb, ltb-true, lt-ltb, ltb-false, le-ltb, not-true}
 use Rattle.bits.specs.All.{allB}
 use Rattle.bits.specs.AllLaws.{and-i, and-true, and-false, both-ways, either}
+use Rattle.bits.specs.Bit.{joined}
 use Rattle.bits.specs.BitLaws.{digit}
 use Rattle.rows.specs.Size.{present, numbers}
 use Rattle.levels.specs.declared.Order.{Order}
 use Rattle.records.specs.Records.{recordSize, BytesLent, rootSign, field, kind, level, readLevel, driver, container, marks, firstSpare, lastSpare, isTask, isObject, isRoot, inAnother, freeRecord, taskRecord, objectRecordOf, soundRecordOf, soundRecord}
 use Rattle.records.specs.RecordLaws.{one-of-two, two-of, sound-task, sound-object, sound-else, field-past}
-
--- four bytes as one number, the first lowest
-abbrev pub joined : ℕ → ℕ → ℕ → ℕ → ℕ
-joined a b c d = a + b * 0x100 + c * 0x1_0000 + d * 0x100_0000
 
 -- the half of the record of x that starts at f: at 0 kind, level, read level and driver, at 4 container, marks and the spare bytes
 unfoldable pub half : List ℕ → ℕ → ℕ → ℕ

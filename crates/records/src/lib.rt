@@ -16,7 +16,6 @@ ghost use Rattle.records.specs.Records.{
   coreRecord,
 };
 ghost use Rattle.records.specs.WordLaws.{
-  joined,
   half,
   word,
   containerFits,
@@ -31,6 +30,7 @@ ghost use Rattle.records.specs.WordLaws.{
 };
 ghost use Rattle.records.specs.SeenLaws.{seenFits, Sees};
 ghost use Rattle.records.specs.GroupLaws.{groupSize, groupFree, groupsFree, allSound, FreeUntil, Gathered, levelsFit};
+use bits::join;
 use levels::Order;
 use rows::NUMBERS;
 
@@ -140,13 +140,6 @@ pub fn clear_all(bytes: &mut [u8])
 }
 
 // ---- soundness. A record is read as one number of eight bytes, which the compiler turns into one load.
-
-// Four bytes as one number, the first lowest.
-fn join(a: u8, b: u8, c: u8, d: u8) -> usize
-    ensures { λ r. ⌜ r ≡ joined a b c d ⌝ }
-{
-    (a as usize) + (b as usize) * 0x100 + (c as usize) * 0x1_0000 + (d as usize) * 0x100_0000
-}
 
 // The half of the record of x that starts at f.
 fn half(bytes: &[u8], x: usize, f: usize) -> usize

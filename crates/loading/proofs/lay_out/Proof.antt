@@ -1,7 +1,7 @@
 -- At each turn the calls that are left, on the memory that is, come to what all calls of the text come to on the memory at entry.
 -- Assumes nothing.
 use mathlib.Core.Path.{_≡_, refl, sym, ap, _∙_}
-use mathlib.Core.List.{List, []}
+use mathlib.Core.List.{List}
 use Prim.Native.Nat.{ℕ, _+_, _-_, _*_, _≤_, _<_}
 use native.Mathlib.Omega.{arith}
 use lib.ListN.{length, drop}
@@ -13,7 +13,6 @@ use Rattle.model.specs.Ready.{Ready}
 use Rattle.model.specs.Events.{left}
 use Rattle.model.specs.Load.{inTurn}
 use Rattle.loading.specs.Calls.{holders, callsFrom, callsIn}
-use Rattle.loading.specs.Forms.{Further, turned}
 use Rattle.loading.specs.TurnLaws.{turn-none}
 use Rattle.loading.specs.FormLaws.{closes, closes-none, line, end, ends-with, goes-with, goes-further}
 use Rattle.loading.specs.declared.Turn.the-variants.{GoesOn, Ends}

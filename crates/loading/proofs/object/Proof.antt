@@ -1,5 +1,5 @@
-use mathlib.Core.Path.{_≡_, refl, sym, _∙_}
-use mathlib.Core.List.{List, [], _++_}
+use mathlib.Core.Path.{_≡_, sym, _∙_}
+use mathlib.Core.List.{List, _++_}
 use Prim.Native.Nat.{ℕ, _+_, _*_}
 use native.Mathlib.Omega.{arith}
 use lib.ListN.{length, drop, set, length-set}
@@ -9,10 +9,8 @@ use Rattle.layout.specs.Reading.{head}
 use Rattle.layout.specs.Answers.{headAnswer}
 use Rattle.layout.specs.PlaceLaws.{head-got}
 use Rattle.layout.specs.declared.fields.Heading.the-variants.{Holds}
-use Rattle.model.specs.State.{memory}
 use Rattle.model.specs.Events.{left}
-use Rattle.model.specs.Load.{inTurn}
-use Rattle.loading.specs.Calls.{Holder, holders, objectCalls, callsFrom}
+use Rattle.loading.specs.Calls.{holders, objectCalls, callsFrom}
 use Rattle.loading.specs.Forms.{Further, turned}
 use Rattle.loading.specs.TurnLaws.{turn-stops, turn-goes, turn-ready, turn-none}
 use Rattle.loading.specs.FormLaws.{no-level, no-object, object-calls, further}

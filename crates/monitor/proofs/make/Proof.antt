@@ -2,7 +2,7 @@ use mathlib.Core.Path.{_∙_}
 use borrow.Author.Needs.{needs}
 use borrow.Author.Tests.{eq-eqb}
 use Rattle.bits.specs.AllLaws.{and-i}
-use Rattle.model.specs.State.{memory, lengthsFit}
+use Rattle.model.specs.State.{lengthsFit}
 use Rattle.monitor.proofs.Loads.{whole-done, whole-refused}
 use Rattle.monitor.proofs.make.Statement.{statement}
 use Rattle.monitor.proofs.make.Tie as tie

@@ -8,7 +8,7 @@ use borrow.Author.Tests.{not-false}
 use Rattle.layout.specs.Layout.{taskWord, imageWord, levelWord, readsWord, closing}
 use Rattle.layout.specs.Reading.{field}
 use Rattle.layout.specs.Answers.{standsAt}
-use Rattle.layout.specs.PlaceLaws.{Goes, Three, stands, stands-expected, task-closes, task-answer}
+use Rattle.layout.specs.PlaceLaws.{Goes, stands, stands-expected, task-closes, task-answer}
 use Rattle.layout.specs.Quick.{quadAt, QuickTask}
 use Rattle.layout.specs.QuickLaws.{quick-got, is-word}
 use Rattle.layout.proofs.fields.quick_task.Statement.{statement}
@@ -70,9 +70,6 @@ closed c = sym (c .before .is-at .ensures) ∙ not-false _ (c .if1 .left)
 inside : (c : tie.Else1) → c .before .before .before .fourth .given .0 .1 .0 < length (c .before .before .before .before .before .before .before .before .before .before .before .before .before .before .before .before .before .before .before .before .before .before .before .before .before .before .before .args .text .now)
 inside c = stands (c .before .before .before .before .before .before .before .before .before .before .before .before .before .before .before .before .before .before .before .before .before .before .before .before .before .before .before .args .text .now) (c .before .before .before .fourth .given .0 .1 .0) closing (closed c) .0
 
-add-t19 : tie.Need-add-t19
-add-t19 c = omega (arith, inside c, c .before .before .before .before .before .before .before .before .before .before .before .before .before .before .before .before .before .before .before .before .before .before .before .before .before .before .before .good .0)
-
 returns-6 : tie.Need-returns-6
 unfolding QuickTask
 returns-6 c =
@@ -90,4 +87,4 @@ quick-task-spec =
     (λ c κs. search needs) (λ c κs. search needs) quick-field-requires-2 (λ c. search needs) (λ c. search needs) returns-2
     (λ c κs. search needs) (λ c κs. search needs) quick-field-requires-3 (λ c. search needs) (λ c. search needs) returns-3
     (λ c κs. search needs) (λ c κs. search needs) quick-field-requires-4 (λ c. search needs) (λ c. search needs) returns-4
-    (λ c κs. search needs) returns-5 add-t19 returns-6)
+    (λ c κs. search needs) returns-5 (λ c. omega (arith, inside c, c .before .before .before .before .before .before .before .before .before .before .before .before .before .before .before .before .before .before .before .before .before .before .before .before .before .before .before .good .0)) returns-6)
