@@ -1,4 +1,4 @@
-use mathlib.Core.Path.{_≡_, sym, refl, _∙_}
+use mathlib.Core.Path.{_≡_, sym, _∙_}
 use mathlib.Core.Bool.{true}
 use Prim.Native.Nat.{_+_, _<_}
 use native.Mathlib.Omega.{arith}
@@ -9,30 +9,26 @@ use Rattle.layout.specs.Layout.{taskWord, imageWord, levelWord, readsWor
 use Rattle.layout.specs.Reading.{field}
 use Rattle.layout.specs.Answers.{standsAt}
 use Rattle.layout.specs.PlaceLaws.{Goes, stands, stands-expected, task-closes, task-answer}
-use Rattle.layout.specs.Quick.{quadAt, QuickTask}
-use Rattle.layout.specs.QuickLaws.{quick-got, is-word}
+use Rattle.layout.specs.Quick.{QuickTask}
+use Rattle.layout.specs.QuickLaws.{quick-got}
 use Rattle.layout.proofs.fields.quick_task.Statement.{statement}
 use Rattle.layout.proofs.fields.quick_task.Tie as tie
 
 -- the number
-one : (c : tie.After-known-told) → let a = c .before .before .before .before .before .before .before .args in Goes (a .text .now) (a .at) (field taskWord (drop (a .at) (a .text .now))) (c .before .first .given .0 .0) (c .before .first .given .0 .1 .0)
-unfolding taskWord quadAt
-one c = quick-got _ taskWord _ _ _ _ (c .before .before .before .quick-field .ensures taskWord (is-word _ _ _ _ refl refl (sym (c .before .before .before .before .before .join .ensures)) (sym (c .before .before .before .before .join2 .ensures)))) (c .before .first .given .1)
+one : (c : tie.After-known-told) → let a = c .before .before .before .before .before .args in Goes (a .text .now) (a .at) (field taskWord (drop (a .at) (a .text .now))) (c .before .first .given .0 .0) (c .before .first .given .0 .1 .0)
+one c = quick-got _ taskWord _ _ _ _ (c .before .before .before .task-field .ensures) (c .before .first .given .1)
 
 -- the image
-two : (c : tie.After-known-told2) → let b = c .before .before .before .before .before .before in let l = b .before .before .before .before .before .before .before .args .text .now in let at = b .before .first .given .0 .1 .0 in Goes l at (field imageWord (drop at l)) (c .before .second .given .0 .0) (c .before .second .given .0 .1 .0)
-unfolding imageWord quadAt
-two c = quick-got _ imageWord _ _ _ _ (c .before .before .before .quick-field2 .ensures imageWord (is-word _ _ _ _ refl refl (sym (c .before .before .before .before .before .join3 .ensures)) (sym (c .before .before .before .before .join4 .ensures)))) (c .before .second .given .1)
+two : (c : tie.After-known-told2) → let b = c .before .before .before .before in let l = b .before .before .before .before .before .args .text .now in let at = b .before .first .given .0 .1 .0 in Goes l at (field imageWord (drop at l)) (c .before .second .given .0 .0) (c .before .second .given .0 .1 .0)
+two c = quick-got _ imageWord _ _ _ _ (c .before .before .before .image-field .ensures) (c .before .second .given .1)
 
 -- the level
-three : (c : tie.After-known-told3) → let b = c .before .before .before .before .before .before in let l = b .before .before .before .before .before .before .before .before .before .before .before .before .before .args .text .now in let at = b .before .second .given .0 .1 .0 in Goes l at (field levelWord (drop at l)) (c .before .third .given .0 .0) (c .before .third .given .0 .1 .0)
-unfolding levelWord quadAt
-three c = quick-got _ levelWord _ _ _ _ (c .before .before .before .quick-field3 .ensures levelWord (is-word _ _ _ _ refl refl (sym (c .before .before .before .before .before .join5 .ensures)) (sym (c .before .before .before .before .join6 .ensures)))) (c .before .third .given .1)
+three : (c : tie.After-known-told3) → let b = c .before .before .before .before in let l = b .before .before .before .before .before .before .before .before .before .args .text .now in let at = b .before .second .given .0 .1 .0 in Goes l at (field levelWord (drop at l)) (c .before .third .given .0 .0) (c .before .third .given .0 .1 .0)
+three c = quick-got _ levelWord _ _ _ _ (c .before .before .before .level-field .ensures) (c .before .third .given .1)
 
 -- the read level
-four : (c : tie.After-known-told4) → let b = c .before .before .before .before .before .before in let l = b .before .before .before .before .before .before .before .before .before .before .before .before .before .before .before .before .before .before .before .args .text .now in let at = b .before .third .given .0 .1 .0 in Goes l at (field readsWord (drop at l)) (c .before .fourth .given .0 .0) (c .before .fourth .given .0 .1 .0)
-unfolding readsWord quadAt
-four c = quick-got _ readsWord _ _ _ _ (c .before .before .before .quick-field4 .ensures readsWord (is-word _ _ _ _ refl refl (sym (c .before .before .before .before .before .join7 .ensures)) (sym (c .before .before .before .before .join8 .ensures)))) (c .before .fourth .given .1)
+four : (c : tie.After-known-told4) → let b = c .before .before .before .before in let l = b .before .before .before .before .before .before .before .before .before .before .before .before .before .args .text .now in let at = b .before .third .given .0 .1 .0 in Goes l at (field readsWord (drop at l)) (c .before .fourth .given .0 .0) (c .before .fourth .given .0 .1 .0)
+four c = quick-got _ readsWord _ _ _ _ (c .before .before .before .reads-field .ensures) (c .before .fourth .given .1)
 
 returns : tie.Need-returns
 unfolding QuickTask
@@ -54,37 +50,29 @@ returns-5 : tie.Need-returns-5
 unfolding QuickTask
 returns-5 c = tt
 
-quick-field-requires-2 : tie.Need-quick-field-requires-2
-quick-field-requires-2 c κs = (one (c .before .before) .within, omega arith, omega arith)
-
-quick-field-requires-3 : tie.Need-quick-field-requires-3
-quick-field-requires-3 c κs = (two (c .before .before) .within, omega arith, omega arith)
-
-quick-field-requires-4 : tie.Need-quick-field-requires-4
-quick-field-requires-4 c κs = (three (c .before .before) .within, omega arith, omega arith)
-
 -- the closing bracket
-closed : (c : tie.Else1) → standsAt closing (drop (c .before .before .before .fourth .given .0 .1 .0) (c .before .before .before .before .before .before .before .before .before .before .before .before .before .before .before .before .before .before .before .before .before .before .before .before .before .before .before .args .text .now)) ≡ true
+closed : (c : tie.Else1) → standsAt closing (drop (c .before .before .before .fourth .given .0 .1 .0) (c .before .before .before .before .before .before .before .before .before .before .before .before .before .before .before .before .before .before .before .args .text .now)) ≡ true
 closed c = sym (c .before .is-at .ensures) ∙ not-false _ (c .if1 .left)
 
-inside : (c : tie.Else1) → c .before .before .before .fourth .given .0 .1 .0 < length (c .before .before .before .before .before .before .before .before .before .before .before .before .before .before .before .before .before .before .before .before .before .before .before .before .before .before .before .args .text .now)
-inside c = stands (c .before .before .before .before .before .before .before .before .before .before .before .before .before .before .before .before .before .before .before .before .before .before .before .before .before .before .before .args .text .now) (c .before .before .before .fourth .given .0 .1 .0) closing (closed c) .0
+inside : (c : tie.Else1) → c .before .before .before .fourth .given .0 .1 .0 < length (c .before .before .before .before .before .before .before .before .before .before .before .before .before .before .before .before .before .before .before .args .text .now)
+inside c = stands (c .before .before .before .before .before .before .before .before .before .before .before .before .before .before .before .before .before .before .before .args .text .now) (c .before .before .before .fourth .given .0 .1 .0) closing (closed c) .0
 
 returns-6 : tie.Need-returns-6
 unfolding QuickTask
 returns-6 c =
     let d = c .before .before in
-    let l = c .before .before .before .before .before .before .before .before .before .before .before .before .before .before .before .before .before .before .before .before .before .before .before .before .before .before .before .args .text .now in
+    let l = c .before .before .before .before .before .before .before .before .before .before .before .before .before .before .before .before .before .before .before .args .text .now in
     let e = d .before .fourth .given .0 .1 .0 in
-    let b = d .before .before .before .before .before .before .before .before .before .before .before .before in
-    task-answer l _ _ (e + 1) (task-closes _ _ _ _ _ _ _ (record { u = _; v = _; first = one (b .before .before .before .before .before .before) .is; second = two b .is; third = three (d .before .before .before .before .before .before) .is }) (four d .is) ∙ stands-expected l e closing _ (closed c)) (omega (arith, inside c))
+    let b = d .before .before .before .before .before .before .before .before in
+    task-answer l _ _ (e + 1)
+    (task-closes _ _ _ _ _ _ _ (record { u = _; v = _; first = one (b .before .before .before .before) .is; second = two b .is; third = three (d .before .before .before .before) .is }) (four d .is) ∙ stands-expected l e closing _ (closed c)) (omega (arith, inside c))
 
 pub quick-task-spec : {M : Type 1} → statement M
 quick-task-spec =
     tie.close
     (tie.spec
-    (λ c κs. search needs) (λ c κs. search needs) (λ c κs. search needs) (λ c. search needs) (λ c. search needs) returns
-    (λ c κs. search needs) (λ c κs. search needs) quick-field-requires-2 (λ c. search needs) (λ c. search needs) returns-2
-    (λ c κs. search needs) (λ c κs. search needs) quick-field-requires-3 (λ c. search needs) (λ c. search needs) returns-3
-    (λ c κs. search needs) (λ c κs. search needs) quick-field-requires-4 (λ c. search needs) (λ c. search needs) returns-4
-    (λ c κs. search needs) returns-5 (λ c. omega (arith, inside c, c .before .before .before .before .before .before .before .before .before .before .before .before .before .before .before .before .before .before .before .before .before .before .before .before .before .before .before .good .0)) returns-6)
+    (λ c κs. search needs) (λ c. search needs) (λ c. search needs) returns
+    (λ c κs. one c .within) (λ c. search needs) (λ c. search needs) returns-2
+    (λ c κs. two c .within) (λ c. search needs) (λ c. search needs) returns-3
+    (λ c κs. three c .within) (λ c. search needs) (λ c. search needs) returns-4
+    (λ c κs. search needs) returns-5 (λ c. omega (arith, inside c, c .before .before .before .before .before .before .before .before .before .before .before .before .before .before .before .before .before .before .before .good .0)) returns-6)
