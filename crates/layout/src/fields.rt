@@ -3,6 +3,7 @@ ghost use mathlib.Core.Path.{_≡_};
 ghost use mathlib.Core.List.{List};
 ghost use Prim.Native.Nat.{ℕ, _+_, _≤_, _<_};
 ghost use lib.ListN.{length, drop, getD};
+ghost use Rattle.layout.specs.Layout.{objectWord, driverWord, levelWord, taskWord, imageWord, readsWord};
 ghost use Rattle.layout.specs.Reading.{number, field, head, taskAt};
 ghost use Rattle.layout.specs.Answers.{digitAt, standsAt, fieldAnswer, leftField, headAnswer, leftHead, taskAnswer, leftTask};
 ghost use Rattle.layout.specs.Quick.{quadAt, IsWord, QuickField, QuickHead, QuickTask};
@@ -262,37 +263,77 @@ fn quick_field(text: &[u8], at: usize, size: usize, first: usize, last: usize) -
     number_at(text, at + size)
 }
 
+// ---- each word, and the number after it
+
+fn object_field(text: &[u8], at: usize) -> Field
+    requires { ⌜ at ≤ length (now text) ⌝ }
+    ensures { λ r. ⌜ QuickField (length (now (text .entry))) (field objectWord (drop at (now (text .entry)))) r ⌝ }
+{
+    let first = join(b'(', b'o', b'b', b'j');
+    let last = join(b'e', b'c', b't', b' ');
+    quick_field(text, at, 8, first, last)
+}
+
+fn driver_field(text: &[u8], at: usize) -> Field
+    requires { ⌜ at ≤ length (now text) ⌝ }
+    ensures { λ r. ⌜ QuickField (length (now (text .entry))) (field driverWord (drop at (now (text .entry)))) r ⌝ }
+{
+    let first = join(b' ', b'd', b'r', b'i');
+    let last = join(b'v', b'e', b'r', b' ');
+    quick_field(text, at, 8, first, last)
+}
+
+fn level_field(text: &[u8], at: usize) -> Field
+    requires { ⌜ at ≤ length (now text) ⌝ }
+    ensures { λ r. ⌜ QuickField (length (now (text .entry))) (field levelWord (drop at (now (text .entry)))) r ⌝ }
+{
+    let first = join(b' ', b'l', b'e', b'v');
+    let last = join(b'v', b'e', b'l', b' ');
+    quick_field(text, at, 7, first, last)
+}
+
+fn task_field(text: &[u8], at: usize) -> Field
+    requires { ⌜ at ≤ length (now text) ⌝ }
+    ensures { λ r. ⌜ QuickField (length (now (text .entry))) (field taskWord (drop at (now (text .entry)))) r ⌝ }
+{
+    let first = join(b'(', b't', b'a', b's');
+    let last = join(b'a', b's', b'k', b' ');
+    quick_field(text, at, 6, first, last)
+}
+
+fn image_field(text: &[u8], at: usize) -> Field
+    requires { ⌜ at ≤ length (now text) ⌝ }
+    ensures { λ r. ⌜ QuickField (length (now (text .entry))) (field imageWord (drop at (now (text .entry)))) r ⌝ }
+{
+    let first = join(b' ', b'i', b'm', b'a');
+    let last = join(b'a', b'g', b'e', b' ');
+    quick_field(text, at, 7, first, last)
+}
+
+fn reads_field(text: &[u8], at: usize) -> Field
+    requires { ⌜ at ≤ length (now text) ⌝ }
+    ensures { λ r. ⌜ QuickField (length (now (text .entry))) (field readsWord (drop at (now (text .entry)))) r ⌝ }
+{
+    let first = join(b' ', b'r', b'e', b'a');
+    let last = join(b'a', b'd', b's', b' ');
+    quick_field(text, at, 7, first, last)
+}
+
+// ---- a head, and a task
+
 fn quick_head(text: &[u8], at: usize) -> Heading
     requires { ⌜ at ≤ length (now text) ⌝ }
     ensures { λ r. ⌜ QuickHead (length (now (text .entry))) (head (drop at (now (text .entry)))) r ⌝ }
 {
-    let first = quick_field(
-        text,
-        at,
-        8,
-        join(b'(', b'o', b'b', b'j'),
-        join(b'e', b'c', b't', b' '),
-    );
+    let first = object_field(text, at);
     let Field::Number { value: number, end } = first else {
         return Heading::Headless { at };
     };
-    let second = quick_field(
-        text,
-        end,
-        8,
-        join(b' ', b'd', b'r', b'i'),
-        join(b'v', b'e', b'r', b' '),
-    );
+    let second = driver_field(text, end);
     let Field::Number { value: driver, end } = second else {
         return Heading::Headless { at };
     };
-    let third = quick_field(
-        text,
-        end,
-        7,
-        join(b' ', b'l', b'e', b'v'),
-        join(b'v', b'e', b'l', b' '),
-    );
+    let third = level_field(text, end);
     let Field::Number { value: level, end } = third else {
         return Heading::Headless { at };
     };
@@ -308,43 +349,19 @@ fn quick_task(text: &[u8], at: usize) -> Running
     requires { ⌜ at ≤ length (now text) ⌝ }
     ensures { λ r. ⌜ QuickTask (length (now (text .entry))) (taskAt (drop at (now (text .entry)))) r ⌝ }
 {
-    let first = quick_field(
-        text,
-        at,
-        6,
-        join(b'(', b't', b'a', b's'),
-        join(b'a', b's', b'k', b' '),
-    );
+    let first = task_field(text, at);
     let Field::Number { value: number, end } = first else {
         return Running::Idle { at };
     };
-    let second = quick_field(
-        text,
-        end,
-        7,
-        join(b' ', b'i', b'm', b'a'),
-        join(b'a', b'g', b'e', b' '),
-    );
+    let second = image_field(text, end);
     let Field::Number { value: image, end } = second else {
         return Running::Idle { at };
     };
-    let third = quick_field(
-        text,
-        end,
-        7,
-        join(b' ', b'l', b'e', b'v'),
-        join(b'v', b'e', b'l', b' '),
-    );
+    let third = level_field(text, end);
     let Field::Number { value: level, end } = third else {
         return Running::Idle { at };
     };
-    let fourth = quick_field(
-        text,
-        end,
-        7,
-        join(b' ', b'r', b'e', b'a'),
-        join(b'a', b'd', b's', b' '),
-    );
+    let fourth = reads_field(text, end);
     let Field::Number { value: reads, end } = fourth else {
         return Running::Idle { at };
     };
