@@ -76,7 +76,7 @@ RepeatedMark = (size : Size) (b : Item) (m : MemoryOf size) (is : List Item) →
 
 -- ---- soundness is kept
 
--- on any memory, reached or not
+-- every call that is granted or slipped leaves right lengths and sound bytes, on any memory, reached or not
 abbrev pub LeavesSound : Type 0
 LeavesSound = (size : Size) (o : Order) (m : MemoryOf size) (c : Call) → isDone (perform o m c .verdict) ≡ true
     → (lengthsFit (perform o m c .memory) ≡ true) × (soundOf size o (perform o m c .memory .bytes) ≡ true)
@@ -109,6 +109,12 @@ module _ {size : Size} (o : Order) where
   AllGranted [] m = Unit {0}
   AllGranted (c ∷ cs) m = (perform o m c .verdict ≡ granted) × AllGranted cs (perform o m c .memory)
 
+  -- those before one are granted, and that one is refused with v
+  unfoldable pub FirstRefused : List Call → MemoryOf size → ℕ → Type 0
+  FirstRefused [] m v = ⊥
+  FirstRefused (c ∷ cs) m v =
+      ((isDone (perform o m c .verdict) ≡ false) × (perform o m c .verdict ≡ v)) ⊎ ((perform o m c .verdict ≡ granted) × FirstRefused cs (perform o m c .memory) v)
+
 abbrev pub LayoutGives : Type 0
 LayoutGives = (size : Size) (o : Order) → orderPasses o ≡ true → (f : Layout) → GiveThese {size = size} o (layoutCalls f) (started o)
 
@@ -117,11 +123,14 @@ abbrev pub LoadGives : Type 0
 LoadGives = (size : Size) (o : Order) (m : MemoryOf size) (t : List ℕ)
     → let v = load o m t .verdict in (layoutGives v || eqb v row-state || eqb v row-order || eqb v row-form || eqb v row-deep) ≡ true
 
--- "The result is that of a start and then these calls, in file order": the text is that of a layout whose calls are all granted after a start, and leave
--- what the load leaves
+-- "The result is that of a start and then these calls, in file order": the text is that of a layout, not too deep and not too long, whose calls are all
+-- granted after a start, and leave what the load leaves
 pub record AsCalls {size : Size} (o : Order) (m : MemoryOf size) (t : List ℕ) : Type 0 where
   pub layout : Layout
+  pub fits : Fits layout
   pub text : written layout ≡ t
+  pub not-deep : depth layout ≤ mostDeep
+  pub not-long : length t ≤ mostBytes
   pub start-granted : perform o m Start .verdict ≡ granted
   pub all-granted : AllGranted o (layoutCalls layout) (perform o m Start .memory)
   pub leaves-same : begun (loads o t) m ≡ run (map (asks o) (layoutCalls layout)) (begun (asks o Start) m)
@@ -129,10 +138,18 @@ pub record AsCalls {size : Size} (o : Order) (m : MemoryOf size) (t : List ℕ) 
 abbrev pub LoadIsList : Type 0
 LoadIsList = (size : Size) (o : Order) (m : MemoryOf size) (t : List ℕ) → load o m t .verdict ≡ granted → AsCalls o m t
 
--- and the load of a layout's text gives what its calls give in turn after a start: 0, or the number of the first that is refused
+-- the load of such a layout's text tells what its calls give after a start: granted if all are, and otherwise the number of the first that is refused
+pub record Tells {size : Size} (o : Order) (m : MemoryOf size) (f : Layout) : Type 0 where
+  pub granted-all : AllGranted o (layoutCalls f) (perform o m Start .memory) → load o m (written f) .verdict ≡ granted
+  pub refused-with : (v : ℕ) → FirstRefused o (layoutCalls f) (perform o m Start .memory) v → load o m (written f) .verdict ≡ v
+
 abbrev pub LoadTells : Type 0
-LoadTells = (size : Size) (o : Order) (m : MemoryOf size) (f : Layout) → lengthsFit m ≡ true → orderPasses o ≡ true → Fits f → depth f ≤ mostDeep → length (written f) ≤ mostBytes
-    → load o m (written f) .verdict ≡ inTurn o (layoutCalls f) (perform o m Start .memory) .verdict
+LoadTells = (size : Size) (o : Order) (m : MemoryOf size) (f : Layout) → lengthsFit m ≡ true → orderPasses o ≡ true → Fits f → depth f ≤ mostDeep → length (written f) ≤ mostBytes → Tells o m f
+
+-- "as a start, tests only lengths for 2", then 3
+abbrev pub LoadRows : Type 0
+LoadRows = (size : Size) (o : Order) (m : MemoryOf size) (t : List ℕ)
+    → (lengthsFit m ≡ false → load o m t .verdict ≡ row-state) × (lengthsFit m ≡ true → orderPasses o ≡ false → load o m t .verdict ≡ row-order)
 
 -- a load refused past row 3 leaves the state of a start, "the one exception for refused calls"
 abbrev pub RefusedLoad : Type 0

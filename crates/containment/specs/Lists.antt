@@ -37,7 +37,7 @@ pub record StandingOf (size : Size) : Type 0 where
 abbrev pub Standing : Type 0
 Standing = StandingOf present
 
--- what a call means for that, if it is granted
+-- what a call means for that, if it is granted or slipped
 pub data Role : Type 0 where
   starting : Role
   marking : ℕ → Role

@@ -34,7 +34,7 @@ use Rattle.containment.specs.Invariant.{standing, Joined, Limits, joins,
 use Rattle.containment.specs.ItemsKeep.{begun-keeps, run-keeps}
 use Rattle.containment.specs.Witness.{upward, upward-granted, upward-marks, none-leaves}
 pub use Rattle.containment.specs.SpreadProof.{spread-exact}
-pub use Rattle.containment.specs.LoadProof.{layout-gives, load-gives, loads-sound, refused-load, untouched-by-load, load-is-list, load-tells}
+pub use Rattle.containment.specs.LoadProof.{layout-gives, load-gives, loads-sound, refused-load, untouched-by-load, load-is-list, load-tells, load-rows}
 
 -- what a list leaves
 reached : {size : Size} (b : Item) (m : MemoryOf size) (is : List Item) → Reached b m is → Invariant (run is (begun b m))

@@ -2,18 +2,18 @@
 -- Assumes nothing.
 use mathlib.Core.Path.{_≡_, refl, sym, _∙_}
 use mathlib.Core.Bool.{Bool, true, false, cond, _&&_}
-use mathlib.Core.Logic.{inl, inr}
+use mathlib.Core.Logic.{_⊎_, inl, inr}
 use mathlib.Core.List.{List, [], _∷_}
-use Prim.Native.Nat.{ℕ, _+_, _≤_}
+use Prim.Native.Nat.{ℕ, _+_, _-_, _≤_, _<_}
 use native.Mathlib.Omega.{arith}
 use lib.Dec.{leb, ltb, eqb}
 use lib.ListN.{length}
-use borrow.Author.Tests.{le-leb, le-ltb, leb-true, ltb-true, ltb-false}
-use Rattle.layout.specs.Layout.{Layout, depth, opening, mostDeep, mostBytes}
+use borrow.Author.Tests.{le-leb, lt-leb, le-ltb, leb-true, leb-false, ltb-true, ltb-false}
+use Rattle.layout.specs.Layout.{Layout, Fits, written, depth, opening, mostDeep, mostBytes}
 use Rattle.layout.specs.Reading.{Reading, found, lost, readLayout, Settled, fits, broken, deep, opened, ninthFrom, settledBy, settled}
-use Rattle.layout.specs.NumberLaws.{found-inj}
+use Rattle.layout.specs.NumberLaws.{found-inj, lost-found}
 use Rattle.layout.specs.ReadingLaws.{layout-sound, layout-written}
-use Rattle.layout.specs.Claims.{OneReading, ReadsWhole, OneLayout, SettlesAll, PlaceWithin}
+use Rattle.layout.specs.Claims.{OneReading, ReadsWhole, OneLayout, SettlesAll, SettlesBroken, SettlesDeep, PlaceWithin}
 
 pub reads-whole : ReadsWhole
 reads-whole t f u e = layout-sound _ t f u e
@@ -24,43 +24,58 @@ one-reading f t g = (λ e. rw (← e) (layout-written f g), λ e. reads-whole t 
 pub one-layout : OneLayout
 one-layout f g p q e = found-inj f g [] [] (sym (layout-written f p) ∙ rw e (layout-written g q)) .0
 
--- ---- what settles as a layout
+-- ---- what a text settles
 
-by-depth : (t : List ℕ) (f g : Layout) → cond (leb (depth g) mostDeep) (fits g) (deep (ninthFrom 0 t)) ≡ fits f → (g ≡ f) × (depth f ≤ mostDeep)
-by-depth t f g e = go (leb (depth g) mostDeep) refl e
+-- what is so of a text that settles so
+unfoldable Told : List ℕ → Settled → Type 0
+Told t (fits f) = Fits f × (written f ≡ t) × (depth f ≤ mostDeep) × (length t ≤ mostBytes)
+Told t (broken place) = (mostBytes < length t) ⊎ ((f : Layout) → Fits f → written f ≡ t → ⊥)
+Told t (deep place) = (f : Layout) × Fits f × (written f ≡ t) × (mostDeep < depth f) × (length t ≤ mostBytes)
+
+by-reading : (t : List ℕ) (r : Reading Layout) → readLayout t ≡ r → length t ≤ mostBytes → Told t (settledBy t r)
+unfolding Told settledBy
+by-reading t (found f u) e l = go (leb (depth f) mostDeep) refl
   where
-    go : (y : Bool) → leb (depth g) mostDeep ≡ y → cond y (fits g) (deep (ninthFrom 0 t)) ≡ fits f → (g ≡ f) × (depth f ≤ mostDeep)
-    go true p q = let is : g ≡ f = cc in (is, rw is at (leb-true (depth g) mostDeep p))
-    go false p q = let z : _≡_ {A = ℕ} 0 1 = cc in absurd (omega arith)
+    go : (y : Bool) → leb (depth f) mostDeep ≡ y → Told t (cond y (fits f) (deep (ninthFrom 0 t)))
+    go true p = let w = reads-whole t f u e in (w .0, w .2, leb-true (depth f) mostDeep p, l)
+    go false p = let w = reads-whole t f u e in (f, w .0, w .2, leb-false (depth f) mostDeep p, l)
+by-reading t (lost u) e l = inr (λ f g h. lost-found f u [] (sym e ∙ one-reading f t g .0 h))
 
-by-reading : (t : List ℕ) (f : Layout) (r : Reading Layout) → readLayout t ≡ r → settledBy t r ≡ fits f → (readLayout t ≡ found f []) × (depth f ≤ mostDeep)
-unfolding settledBy
-by-reading t f (found g u) e q =
-    let d = by-depth t f g q in
-    (rw (← d .0, ← reads-whole t g u e .1) e, d .1)
-by-reading t f (lost u) e q = let z : _≡_ {A = ℕ} 0 1 = cc in absurd (omega arith)
-
-by-length : (t : List ℕ) (f : Layout) → settled t ≡ fits f → (settledBy t (readLayout t) ≡ fits f) × (length t ≤ mostBytes)
-unfolding settled
-by-length t f e = go (ltb mostBytes (length t)) refl e
+told : (t : List ℕ) → Told t (settled t)
+unfolding settled Told
+told t = go (ltb mostBytes (length t)) refl
   where
-    go : (y : Bool) → ltb mostBytes (length t) ≡ y → cond y (broken mostBytes) (settledBy t (readLayout t)) ≡ fits f → (settledBy t (readLayout t) ≡ fits f) × (length t ≤ mostBytes)
-    go true p q = let z : _≡_ {A = ℕ} 0 1 = cc in absurd (omega arith)
-    go false p q = (q, ltb-false mostBytes (length t) p)
+    go : (y : Bool) → ltb mostBytes (length t) ≡ y → Told t (cond y (broken mostBytes) (settledBy t (readLayout t)))
+    go true e = inl (ltb-true mostBytes (length t) e)
+    go false e = by-reading t (readLayout t) refl (ltb-false mostBytes (length t) e)
 
-settles : (t : List ℕ) (f : Layout) → readLayout t ≡ found f [] → depth f ≤ mostDeep → length t ≤ mostBytes → settled t ≡ fits f
+settles : (t : List ℕ) (f : Layout) → Fits f → written f ≡ t → length t ≤ mostBytes → settled t ≡ cond (leb (depth f) mostDeep) (fits f) (deep (ninthFrom 0 t))
 unfolding settled settledBy
-settles t f e d l = rw (le-ltb mostBytes (length t) l, e, le-leb (depth f) mostDeep d)
+settles t f g w l = rw (le-ltb mostBytes (length t) l, one-reading f t g .0 w)
 
 pub settles-all : SettlesAll
-settles-all t f = (
-  λ e.
-      let l = by-length t f e in
-      let r = by-reading t f (readLayout t) refl (l .0) in
-      let w = reads-whole t f [] (r .0) in
-      (w .0, w .2, r .1, l .1),
-  λ e. settles t f (one-reading f t (e .0) .0 (e .1)) (e .2) (e .3),
-)
+unfolding Told
+settles-all t f = (λ e. rw e at (told t), λ e. settles t f (e .0) (e .1) (e .3) ∙ rw (le-leb (depth f) mostDeep (e .2)))
+
+pub settles-deep : SettlesDeep
+unfolding Told
+settles-deep t = (λ e. rw (e .1) at (told t), λ e. (ninthFrom 0 t, settles t (e .0) (e .1) (e .2) (e .4) ∙ rw (lt-leb (depth (e .0)) mostDeep (e .3))))
+
+-- a text of no layout is left somewhere
+left-somewhere : (t : List ℕ) (r : Reading Layout) → readLayout t ≡ r → ((f : Layout) → Fits f → written f ≡ t → ⊥) → (place : ℕ) × (settledBy t r ≡ broken place)
+unfolding settledBy
+left-somewhere t (found f u) e none = let w = reads-whole t f u e in absurd (none f (w .0) (w .2))
+left-somewhere t (lost u) e none = (length t - length u, refl)
+
+pub settles-broken : SettlesBroken
+unfolding Told settled
+settles-broken t = (λ e. rw (e .1) at (told t), λ e. go (ltb mostBytes (length t)) refl e)
+  where
+    go : (y : Bool) → ltb mostBytes (length t) ≡ y → (mostBytes < length t) ⊎ ((f : Layout) → Fits f → written f ≡ t → ⊥)
+        → (place : ℕ) × (cond y (broken mostBytes) (settledBy t (readLayout t)) ≡ broken place)
+    go true e h = (mostBytes, refl)
+    go false e (inl h) = let l = ltb-false mostBytes (length t) e in absurd (omega arith)
+    go false e (inr h) = left-somewhere t (readLayout t) refl h
 
 -- ---- places
 

@@ -119,7 +119,7 @@ unfoldable pub ninthFrom : ℕ → List ℕ → ℕ
 ninthFrom held [] = 0
 ninthFrom held (b ∷ t) = cond (eqb b opening && leb mostDeep held) 0 (1 + ninthFrom (opened held b) t)
 
--- form is looked for in the whole text first: what is found is all of it
+-- 14 before 15: the whole text is read before depth is tested, and what is found is all of it
 unfoldable pub settledBy : List ℕ → Reading Layout → Settled
 settledBy t (found f u) = cond (leb (depth f) mostDeep) (fits f) (deep (ninthFrom 0 t))
 settledBy t (lost u) = broken (length t - length u)

@@ -19,4 +19,4 @@ use Rattle.model.specs.LoadTrial.{example, LoadTrial}
 
 pub load-trial : LoadTrial
 unfolding load laidOut whole inTurn layoutCalls formCalls innerCalls example settled settledBy layoutBy formAt objectBy objectsBy taskAt head reading.field number moreDigits isDigit expect after written formText taskText objectText innerText headText fieldText decimal objectWord driverWord levelWord taskWord imageWord readsWord depth formDepth depthOf allB orderOf Q fresh started fitted refusedUnless refusal lengthsFit soundOf coreRecord soundRecordOf freeRecord taskRecord objectRecordOf isTask isObject field setField setRecord orderPasses countFits reflexive transitive antisymmetric belowTop clearOutside atOrBelow bit outcome verdictOf firstFailing unless write execute create createRoot inUse task object marked hasWrite effects effect addCell cell
-load-trial = refl
+load-trial = (refl, refl)

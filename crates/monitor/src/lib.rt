@@ -334,7 +334,7 @@ pub extern "C" fn tupehiwo_load(
     done.answer
 }
 
-// What a load would answer to a text before any call, with the place of the fault: as C and Rust call it.
+// 0, 14 or 15 as a load past row 3 settles before any call, with the place of the fault, or the text's length: as C and Rust call it.
 #[no_mangle]
 pub extern "C" fn tupehiwo_layout(text: &[u8]) -> Checked
     ensures { λ r. ⌜ r ≡ layoutChecked (now (text .entry)) ⌝ }
