@@ -11,6 +11,7 @@ use Rattle.rows.specs.Size.{Size, present, numbersOf}
 use Rattle.records.specs.Records.{Place, root, within}
 use Rattle.model.specs.Verdicts.{granted, slipped, isDone, row-number, row-taken, row-driver, row-place, row-held, row-scale, row-path, row-rule, row-filled, row-still}
 use Rattle.model.specs.State.{MemoryOf, memory, inUse, task, object, levelOf, readLevelOf, driverOf, liesIn, marked, hasFlow, hasRead, hasWrite}
+use Rattle.model.specs.Inside.{inside}
 use Rattle.model.specs.Effects.{Effect, flow, flow-if, read-access, write-access, make-task, make-object, move-to, clear, mark-outside, mark-thing, effects}
 
 -- a row of the table of verdicts, and what has to hold for it not to apply
@@ -155,7 +156,7 @@ module _ {size : Size} (o : Order) (m : MemoryOf size) where
         effects = created c d n root l;
       }
 
-  -- the object x goes from the container f to the container t
+  -- the object x goes from the container f to the container t, which does not lie anywhere inside x (document 02)
   unfoldable pub move : ℕ → ℕ → ℕ → ℕ → ℕ → Event
   move e d x f t =
       let honest = L x ⊑ L e in
@@ -163,7 +164,7 @@ module _ {size : Size} (o : Order) (m : MemoryOf size) where
         tests =
             need row-number (task m e && task m d && object m x && object m f && object m t)
             ∷ need row-driver (eqb (driverOf m x) d)
-            ∷ need row-place (not (eqb x f) && not (eqb x t) && not (eqb f t) && liesIn m x f)
+            ∷ need row-place (not (eqb x f) && not (eqb x t) && not (eqb f t) && liesIn m x f && not (inside m t x))
             ∷ need row-held (hasWrite m e f && hasWrite m e t && hasWrite m d f && hasWrite m d t)
             ∷ need row-rule (honest || marked m d)
             ∷ need row-rule (L x ⊑ L d && L x ⊑ L t)

@@ -2,6 +2,7 @@ pub mod Verdicts
 pub mod State
 pub mod Ready
 pub mod StateLaws
+pub mod Inside
 pub mod Effects
 pub mod Events
 pub mod Spread

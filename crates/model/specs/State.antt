@@ -62,6 +62,14 @@ module _ {size : Size} where
   abbrev pub driverOf : MemoryOf size → ℕ → ℕ
   driverOf m x = records.driver (m .bytes) x
 
+  -- the object x is a root: it is in no container
+  abbrev pub isRoot : MemoryOf size → ℕ → Bool
+  isRoot m x = records.isRoot size (m .bytes) x
+
+  -- the container that the object x is in, if it is no root
+  abbrev pub containerOf : MemoryOf size → ℕ → ℕ
+  containerOf m x = records.container (m .bytes) x
+
   -- the object x is in the container k
   abbrev pub liesIn : MemoryOf size → ℕ → ℕ → Bool
   liesIn m x k = records.liesWithin size (m .bytes) x k
