@@ -145,7 +145,7 @@ leaves-sound size o m (Move e d x f t) h =
     (λ p.
     let a = simp and-eq-true-iff at (p .tests .0) in
     let b = simp and-eq-true-iff at (p .tests .1 .1 .0) in
-    ((a .0 .0 .1, (f, b .1), a .1, λ q. eqb-false x t (not-true _ (b .0 .0 .1)) (sym q)), (tt, (tt, tt)))) h
+    ((a .0 .0 .1, (f, b .0 .1), a .1, λ q. eqb-false x t (not-true _ (b .0 .0 .0 .1)) (sym q)), (tt, (tt, tt)))) h
 leaves-sound size o m (Delete e d x k) h =
     event-sound o m (delete o m e d x k) refl
     (λ p.
