@@ -8,6 +8,8 @@ pub mod Events
 pub mod Spread
 pub mod Monitor
 pub mod Load
+pub mod WalkLaws
+pub mod InsideLaws
 pub mod MarkLaws
 pub mod SpreadLaws
 pub mod Trials
