@@ -29,10 +29,11 @@ use Rattle.model.specs.Spread.{spread}
 use Rattle.model.specs.Monitor.{fitted, started, perform}
 use Rattle.model.specs.MarkLaws.{MoreMarks, kept-marked, kept-object, kept-driver}
 use Rattle.model.specs.SpreadLaws.{Closed, rest-closed, sized-more, spread-more, spread-only, spread-rests}
-use Rattle.model.specs.SoundLaws.{started-sound, leaves-sound}
+use Rattle.model.specs.SoundLaws.{started-sound, call-did, leaves-sound}
 use Rattle.model.specs.TableLaws.{Holds, refusals, event-done, fitted-done, start-done}
 use Rattle.containment.specs.Lists.{asks, StandingOf, Role, starting, marking, other, role, entered, Admitted}
 use Rattle.containment.specs.Claims.{Covered}
+use Rattle.containment.specs.Roots.{AllEnd, started-ends, did-ends}
 use Rattle.containment.specs.Tables.{flows, row}
 use Rattle.containment.specs.Invariant.{standing, Limits, Invariant, covered-below}
 use Rattle.containment.specs.Changes.{marks-limits}
@@ -60,7 +61,7 @@ unfolding started effect empty inUse
 started-limits size o ok = effect-keeps (standing o (empty size) []) ok (empty-limits size o) (make-task 0 (o .top) (o .top)) (some-number size, rw (field-zero _ 0 0))
 
 pub started-keeps : (size : Size) (o : Order) → orderPasses o ≡ true → Invariant (standing o (started {size = size} o) [])
-started-keeps size o p = record { passes = p; is-sound = started-sound size o p .1; limits = started-limits size o (is-order o p) }
+started-keeps size o p = record { passes = p; is-sound = started-sound size o p .1; limits = started-limits size o (is-order o p); rooted = started-ends size o }
 
 pub start-keeps : {size : Size} (o : Order) (m : MemoryOf size) → isDone (perform o m Start .verdict) ≡ true → Invariant (standing o (perform o m Start .memory) [])
 start-keeps {size} o m h =
@@ -122,16 +123,20 @@ module _ {size : Size} (s : StandingOf size) (i : Invariant s) (o : Order) where
   same-order : (r : Role) {D : Type 0} → NoStart r → (r ≡ starting) ⊎ (D → o ≡ s .order) → D → o ≡ s .order
   same-order r n a d = ⊎-elim (λ e. absurd (subst NoStart e n)) (λ f. f d) a
 
+  -- what every call that is done leaves
+  abbrev Left : MemoryOf size → Type 0
+  Left m = (soundOf size o (m .bytes) ≡ true) × AllEnd m
+
   -- what such a call leaves, under that order
-  later : (m : MemoryOf size) (ts : List ℕ) → o ≡ s .order → soundOf size o (m .bytes) ≡ true → Limits (standing (s .order) m ts) → Invariant (standing (s .order) m ts)
-  later m ts q l k = record { passes = i .passes; is-sound = rw q at l; limits = k }
+  later : (m : MemoryOf size) (ts : List ℕ) → o ≡ s .order → Left m → Limits (standing (s .order) m ts) → Invariant (standing (s .order) m ts)
+  later m ts q l k = record { passes = i .passes; is-sound = rw q at (l .0); limits = k; rooted = l .1 }
 
   -- an event whose tests allow its effects
   event-keeps : (e : Order → Event) → refusals (e o .tests) ≡ true
       → (other ≡ starting) ⊎ (isDone (fitted o (s .memory) (outcome (s .memory) (e o)) .verdict) ≡ true → o ≡ s .order)
       → (Holds (e (s .order) .tests) → AllAllowed s (e (s .order) .effects))
       → isDone (fitted o (s .memory) (outcome (s .memory) (e o)) .verdict) ≡ true
-      → soundOf size o (fitted o (s .memory) (outcome (s .memory) (e o)) .memory .bytes) ≡ true
+      → Left (fitted o (s .memory) (outcome (s .memory) (e o)) .memory)
       → Invariant (standing (s .order) (fitted o (s .memory) (outcome (s .memory) (e o)) .memory) (s .outside))
   event-keeps e r a allowed h l =
       let q = same-order other tt a h in
@@ -139,8 +144,7 @@ module _ {size : Size} (s : StandingOf size) (i : Invariant s) (o : Order) where
       let f = subst (λ (p : Order). Holds (e p .tests) → AllAllowed s (e p .effects)) (sym q) allowed in
       later _ (s .outside) q l (rw (d .leaves) (effects-keep s ok (i .limits) (e o .effects) (f (d .tests))))
 
-  done-keeps : (c : Call) → Admitted (asks o c) s → isDone (perform o (s .memory) c .verdict) ≡ true → soundOf size o (perform o (s .memory) c .memory .bytes) ≡ true
-      → Invariant (entered (role c) o (perform o (s .memory) c .memory) s)
+  done-keeps : (c : Call) → Admitted (asks o c) s → isDone (perform o (s .memory) c .verdict) ≡ true → Left (perform o (s .memory) c .memory) → Invariant (entered (role c) o (perform o (s .memory) c .memory) s)
   unfolding entered read write execute create createRoot move delete callTask invoke pass post find mark step effects
   done-keeps Start a h l = start-keeps o (s .memory) h
   done-keeps (Read e d x) a h l = event-keeps (λ p. read p (s .memory) e d x) refl a (read-allowed s ok (i .limits) e d x) h l
@@ -164,4 +168,4 @@ module _ {size : Size} (s : StandingOf size) (i : Invariant s) (o : Order) where
       later _ (s .outside) (same-order other tt a h) l (rw (fitted-done o (s .memory) (spread (s .memory)) h .inner) (spread-limits s ok (i .limits)))
 
   pub call-keeps : (c : Call) → Admitted (asks o c) s → isDone (perform o (s .memory) c .verdict) ≡ true → Invariant (entered (role c) o (perform o (s .memory) c .memory) s)
-  call-keeps c a h = done-keeps c a h (leaves-sound size o (s .memory) c h .1)
+  call-keeps c a h = done-keeps c a h (leaves-sound size o (s .memory) c h .1, did-ends (call-did size o (s .memory) c h) (i .rooted))

@@ -15,7 +15,8 @@ use Rattle.layout.specs.Layout.{Layout, Fits, depth, mostDeep, written, mostByt
 use Rattle.model.specs.declared.Call.{Call}
 use Rattle.model.specs.declared.Call.the-variants.{Start, Mark, Spread}
 use Rattle.model.specs.Verdicts.{granted, isDone, row-state, row-order, row-number, row-taken, row-scale, row-rule, row-form, row-deep}
-use Rattle.model.specs.State.{MemoryOf, lengthsFit, inUse, task, object, levelOf, driverOf, marked, hasFlow, hasRead, hasWrite}
+use Rattle.model.specs.State.{MemoryOf, lengthsFit, inUse, task, object, isRoot, levelOf, driverOf, marked, hasFlow, hasRead, hasWrite}
+use Rattle.model.specs.Inside.{mostSteps, Leads, Inside, inside}
 use Rattle.model.specs.Spread.{marksSome}
 use Rattle.model.specs.Monitor.{started, perform}
 use Rattle.model.specs.Load.{layoutCalls, inTurn, load, pastOrder}
@@ -159,6 +160,27 @@ RefusedLoad = (size : Size) (o : Order) (m : MemoryOf size) (t : List ℕ) → p
 -- and one refused with 2 or 3 leaves all as it was
 abbrev pub UntouchedByLoad : Type 0
 UntouchedByLoad = (size : Size) (o : Order) (t : List ℕ) (s : StandingOf size) → pastOrder (load o (s .memory) t .verdict) ≡ false → next (loads o t) s ≡ s
+
+-- ---- containers
+
+-- "going from container to container ends at a root in at most 127 steps", from the object x
+pub record AtRoot {size : Size} (m : MemoryOf size) (x : ℕ) : Type 0 where
+  pub steps : ℕ
+  pub end : ℕ
+  pub few : steps ≤ mostSteps size
+  pub leads : Leads m steps x end
+  pub end-object : object m end ≡ true
+  pub end-root : isRoot m end ≡ true
+
+-- in every reached state, from every object
+abbrev pub Rooted : Type 0
+Rooted = (size : Size) (b : Item) (m : MemoryOf size) (is : List Item) → Reached b m is
+    → (x : ℕ) → object (run is (begun b m) .memory) x ≡ true → AtRoot (run is (begun b m) .memory) x
+
+-- the walk that row 7 of a move tests by is exact on every sound memory, reached or not, circles or none: it finds y where some number of steps leads there
+abbrev pub InsideExact : Type 0
+InsideExact = (size : Size) (o : Order) (m : MemoryOf size) → soundOf size o (m .bytes) ≡ true
+    → (x y : ℕ) → object m x ≡ true → (inside m x y ≡ true) ↔ Inside m x y
 
 -- ---- free numbers
 

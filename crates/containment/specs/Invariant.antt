@@ -19,6 +19,7 @@ use Rattle.model.specs.Events.{risky}
 use Rattle.model.specs.RiskLaws.{past-object, past-driver}
 use Rattle.containment.specs.Lists.{StandingOf}
 use Rattle.containment.specs.Claims.{Covered, Contained}
+use Rattle.containment.specs.Roots.{AllEnd}
 use Rattle.containment.specs.Tables.{Table, flows, reads, writes, has}
 
 -- where a list stands, by its parts
@@ -84,6 +85,7 @@ pub record Invariant {size : Size} (s : StandingOf size) : Type 0 where
   pub passes : orderPasses (s .order) ≡ true
   pub is-sound : soundOf size (s .order) (s .memory .bytes) ≡ true
   pub limits : Limits s
+  pub rooted : AllEnd (s .memory)
 
 -- demand 3 is a part of it
 pub contained : {size : Size} (s : StandingOf size) → Limits s → Contained s

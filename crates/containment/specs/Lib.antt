@@ -1,6 +1,7 @@
 pub mod Lists
 pub mod Chains
 pub mod Claims
+pub mod Roots
 pub mod Tables
 pub mod Invariant
 pub mod Follows

@@ -7,6 +7,7 @@ use mathlib.Core.List.{List, [], _∷_, List·Memᴰ, List·Memᴰ·head, List·
 use Prim.Native.Nat.{ℕ, _+_, _*_, _<_}
 use lib.ListN.{set}
 use lib.Seq.{set-getD}
+use native.Mathlib.Omega.{arith}
 use borrow.Author.Tests.{eqb-true}
 use Rattle.bits.specs.AllLaws.{either, not-so}
 use Rattle.rows.specs.Size.{Size, numbersOf}
@@ -19,6 +20,8 @@ use Rattle.model.specs.State.{MemoryOf, task, driverOf, marked, hasFlow, hasRea
 use Rattle.model.specs.StateLaws.{outside-mark}
 use Rattle.model.specs.Effects.{withBytes, objectOf, mark-outside, effect, effects}
 use Rattle.model.specs.Events.{OutcomeOf, unless, firstFailing, verdictOf, outcome, mark}
+use Rattle.model.specs.InsideLaws as inside-laws
+use Rattle.model.specs.InsideLaws.{few-steps, leads-object}
 use Rattle.model.specs.Spread.{spread}
 use Rattle.model.specs.Monitor.{refusedUnless, fitted, start, started, perform}
 use Rattle.model.specs.MarkLaws.{where-rest}
@@ -28,7 +31,7 @@ use Rattle.model.specs.Load.{load, pastOrder}
 use Rattle.model.specs.LoadLaws.{past-rows, past-load, load-past}
 use Rattle.model.specs.Trials.{Q}
 use Rattle.containment.specs.Lists.{Item, asks, reports, loads, lent, StandingOf, Role, starting, marking, other, role, entered, next, run, Admitted, Admissible, leaves, begun, Begins, by-start, by-load}
-use Rattle.containment.specs.Claims.{Reached, Containment, Determined, LeavesSound, RepeatedMark, NeverUnsound, FreeBare, DriversAbove, StartGranted, ListsBegin, OwnOrderReached, MarkGranted, SpreadGranted, GrantedUnreached}
+use Rattle.containment.specs.Claims.{Reached, Containment, Determined, LeavesSound, RepeatedMark, NeverUnsound, Rooted, InsideExact, FreeBare, DriversAbove, StartGranted, ListsBegin, OwnOrderReached, MarkGranted, SpreadGranted, GrantedUnreached}
 use Rattle.containment.specs.Tables.{Table, flows, reads, writes, has}
 use Rattle.containment.specs.Invariant.{standing, Joined, Limits, joins, Invariant, contained}
 use Rattle.containment.specs.ItemsKeep.{begun-keeps, run-keeps}
@@ -107,6 +110,20 @@ repeated-mark size b m is r e h = fitted-out s i _ ∙ rw (i .limits .named e h 
 
     i : Invariant s
     i = reached b m is r
+
+-- ---- containers
+
+pub rooted : Rooted
+rooted size b m is r x h =
+    let i = reached b m is r in
+    let n = run is (begun b m) .memory in
+    let o = run is (begun b m) .order in
+    let e = i .rooted x h in
+    let f = few-steps n o (i .is-sound) (e .0) x (e .1) (e .2) (e .4) h in
+    record { steps = f .0; end = f .1; few = omega (arith, f .2); leads = f .3; end-object = leads-object n o (i .is-sound) (f .0) x (f .1) (f .3) h; end-root = f .4 }
+
+pub inside-exact : InsideExact
+inside-exact size o m ok = inside-laws.inside-exact m o ok
 
 -- ---- free numbers, and objects and their drivers
 

@@ -62,7 +62,7 @@ module _ {size : Size} where
         λ y. field-else (v .bytes) x 5 1 y 0 (omega arith) (omega arith) (inr (omega arith)) ∙ q .1 y,
       )) (h, λ x. refl) .0
 
-  effect-sound : (o : Order) (m : MemoryOf size) (e : Effect) → soundOf size o (m .bytes) ≡ true → Allowed o m e → soundOf size o (effect e m .bytes) ≡ true
+  pub effect-sound : (o : Order) (m : MemoryOf size) (e : Effect) → soundOf size o (m .bytes) ≡ true → Allowed o m e → soundOf size o (effect e m .bytes) ≡ true
   unfolding effect inUse task object objectOf isTask isObject
   effect-sound o m (flow x y) h a = h
   effect-sound o m (flow-if b x y) h a = h
