@@ -13,6 +13,7 @@ pub mod InsideLaws
 pub mod MarkLaws
 pub mod SpreadLaws
 pub mod Trials
+pub mod MoveTrials
 pub mod TrialsProved
 pub mod LoadTrial
 pub mod LoadTrialProved

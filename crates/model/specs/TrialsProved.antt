@@ -16,11 +16,13 @@ use Rattle.rows.specs.Rows.{cell, addCell}
 use Rattle.rows.specs.RowLaws.{cell-add, cell-zeros, length-add}
 use Rattle.rows.specs.Size.{rowSize, numbers}
 use Rattle.levels.specs.Order.{atOrBelow, orderPasses, countFits, reflexive, transitive, antisymmetric, belowTop, clearOutside}
-use Rattle.records.specs.Records.{field, setField, setRecord, isTask, isObject, freeRecord, taskRecord, objectRecordOf, soundRecordOf, coreRecord, soundOf}
-use Rattle.model.specs.State.{lengthsFit, inUse, task, object, marked, hasFlow}
+use Rattle.records.specs.Records.{field, setField, setRecord, isTask, isObject, liesWithin, freeRecord, taskRecord, objectRecordOf, soundRecordOf, coreRecord, soundOf}
+use Rattle.model.specs.State.{lengthsFit, inUse, task, object, marked, hasFlow, hasWrite}
 use Rattle.model.specs.Effects.{effect, effects}
-use Rattle.model.specs.Events.{Outcome, unless, firstFailing, verdictOf, outcome, read, invoke}
+use Rattle.model.specs.Events.{Outcome, unless, firstFailing, verdictOf, outcome, read, move, invoke}
 use Rattle.model.specs.Monitor.{perform, fitted, refusedUnless, refusal, start, started}
+use Rattle.model.specs.MoveTrials.{holding, drawers, moves}
+use Rattle.model.specs.Inside.{walk, inside}
 use Rattle.model.specs.Trials.{Pair, Trial, Holds, AllHold, listed, orderOf, Q, fresh, threeThings, twoTasks, trials}
 
 -- the words that hold the listed flows alone
@@ -98,3 +100,11 @@ computed = refl
 
 pub trials-hold : AllHold trials
 trials-hold = all-hold trials computed
+
+-- the amended move's
+moves-computed : allPass moves ≡ true
+unfolding allPass passes agrees equalUpTo named flowWords allB moves drawers holding Q orderOf fresh started fitted refusedUnless refusal lengthsFit soundOf coreRecord soundRecordOf freeRecord taskRecord objectRecordOf isTask isObject field setField setRecord orderPasses countFits reflexive transitive antisymmetric belowTop clearOutside atOrBelow bit outcome verdictOf firstFailing unless move inside walk liesWithin hasWrite cell task object marked effects effect addCell
+moves-computed = refl
+
+pub moves-hold : AllHold moves
+moves-hold = all-hold moves moves-computed
