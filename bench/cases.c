@@ -104,6 +104,81 @@ static void build_start_down(struct item *item, const struct plan *plan)
     item->world.m.order = down;
 }
 
+/* ------------------------------------------------------------------ moves */
+
+enum { NOWHERE = 255, CHAIN = 120 };
+
+/* What a move may name: a root, the chain in it from TOP to BOTTOM, and an object in another. */
+enum { ROOT, TOP, BOTTOM = TOP + CHAIN - 1, OTHER_ROOT, LOOSE, PLACES };
+
+/* An object of the core's in a container, or a root, which the core may put things into. */
+static void add_object(struct world *w, unsigned n, unsigned container, unsigned level)
+{
+    if (container == NOWHERE)
+        must(w, TUPEHIWO_CODE_CREATE_ROOT, CORE, CORE, n, level, 0);
+    else
+        must(w, TUPEHIWO_CODE_CREATE, CORE, CORE, n, container, level);
+    must(w, TUPEHIWO_CODE_WRITE, CORE, CORE, n, 0, 0);
+    w->things++;
+}
+
+static void move(struct item *item, unsigned object, unsigned from, unsigned to)
+{
+    request(item, TUPEHIWO_CODE_MOVE, CORE, CORE, object, from, to);
+}
+
+static void build_move_of_roots(struct item *item, const struct plan *plan)
+{
+    struct world *w = &item->world;
+    unsigned from = w->things, to = from + 1, object = to + 1, top = plan->levels - 1;
+    add_object(w, from, NOWHERE, top);
+    add_object(w, to, NOWHERE, top);
+    add_object(w, object, from, any_level(w));
+    fill_and_use(item, plan);
+    move(item, object, from, to);
+}
+
+/* So many numbers from the first that is free, in random order. */
+static void shuffle(struct world *w, unsigned *numbers, unsigned count)
+{
+    for (unsigned i = 0; i < count; i++) {
+        unsigned place = draw(&w->random, i + 1), drawn;
+        numbers[i] = w->things + i;
+        drawn = numbers[place];
+        numbers[place] = numbers[i];
+        numbers[i] = drawn;
+    }
+}
+
+/* The numbers are drawn, so that no order of them makes the chain quick to follow. */
+static void build_containers(struct item *item, const struct plan *plan, unsigned n[PLACES])
+{
+    struct world *w = &item->world;
+    unsigned top = plan->levels - 1;
+    shuffle(w, n, PLACES);
+    add_object(w, n[ROOT], NOWHERE, top);
+    for (unsigned i = TOP; i <= BOTTOM; i++)
+        add_object(w, n[i], n[i - 1], top);
+    add_object(w, n[OTHER_ROOT], NOWHERE, top);
+    add_object(w, n[LOOSE], n[OTHER_ROOT], any_level(w));
+    fill_and_use(item, plan);
+}
+
+static void build_move_down(struct item *item, const struct plan *plan)
+{
+    unsigned n[PLACES];
+    build_containers(item, plan, n);
+    move(item, n[LOOSE], n[OTHER_ROOT], n[BOTTOM]);
+}
+
+static void build_move_inside(struct item *item, const struct plan *plan)
+{
+    unsigned n[PLACES];
+    build_containers(item, plan, n);
+    move(item, n[TOP], n[ROOT], n[BOTTOM]);
+    item->verdict = TUPEHIWO_PLACE;
+}
+
 /* ------------------------------------------------------------------ marks */
 
 enum { OBJECTS_OF_ONE = 60 };
@@ -249,6 +324,9 @@ const struct bench_case cases[] = {
     {"write", build_write, FIRST_THINGS, 1},
     {"invoke", build_invoke, FIRST_THINGS, 1},
     {"delete_and_create", build_remade, FIRST_THINGS + 1, 1},
+    {"move_between_roots", build_move_of_roots, FIRST_THINGS + 3, 1},
+    {"move_granted_after_120_steps", build_move_down, TUPEHIWO_THINGS, 1},
+    {"move_refused_after_119_steps", build_move_inside, TUPEHIWO_THINGS, 1},
     {"refusal_with_4", build_unfit, FIRST_THINGS, 1},
     {"refusal_with_2_at_the_last_record", build_unsound, FIRST_THINGS, 1},
     {"start", build_start, TUPEHIWO_THINGS, 1},
@@ -268,8 +346,8 @@ const struct bench_case cases[] = {
 };
 
 const unsigned case_count = sizeof cases / sizeof cases[0];
-const struct bench_case *const case_write = &cases[1], *const case_unsound = &cases[5],
-                               *const case_chain = &cases[15];
+const struct bench_case *const case_write = &cases[1], *const case_unsound = &cases[8],
+                               *const case_chain = &cases[18];
 
 void build_item(struct item *item, const struct bench_case *subject, const struct plan *plan,
                 uint64_t seed)

@@ -1,9 +1,12 @@
 /*
  * Measures the proved monitor against the plain C one.
  *
- *   harness RUNS BATCHES   holds the answers of both against each other and times them
- *   harness once           only holds them against each other, for a counter of instructions
- *   harness script LINES   prints a script for the script programs
+ *   harness RUNS BATCHES [WORD]   holds the answers of both against each other and times them
+ *   harness once [WORD]           only holds them against each other, for a counter of
+ *                                 instructions
+ *   harness script LINES          prints a script for the script programs
+ *
+ * With a word only the cases that have it in their names, and no growth.
  *
  * One line for each measurement: table, case, things in use, levels, rounds (or
  * the unsound record), and the times of plain C and of the proved library in
@@ -73,26 +76,51 @@ static void measure_growth(void)
         line("rounds", case_chain, (struct plan){TUPEHIWO_THINGS, 4, rounds[i], 0});
 }
 
+static void measure_all(void)
+{
+    for (unsigned c = 0; c < case_count; c++)
+        measure_case(&cases[c]);
+    measure_growth();
+}
+
+static void measure_named(const char *word)
+{
+    unsigned named = 0;
+    for (unsigned c = 0; c < case_count; c++)
+        if (strstr(cases[c].name, word) != NULL) {
+            measure_case(&cases[c]);
+            named++;
+        }
+    if (named == 0) {
+        fprintf(stderr, "no case has %s in its name\n", word);
+        failures++;
+    }
+}
+
 static int usage(void)
 {
-    fprintf(stderr, "harness RUNS BATCHES, harness once, or harness script LINES\n");
+    fprintf(stderr, "harness RUNS BATCHES [WORD], harness once [WORD], or harness script LINES\n");
     return 2;
 }
 
 int main(int words, char **word)
 {
+    int once = words >= 2 && strcmp(word[1], "once") == 0, rest = once ? 2 : 3;
     if (words == 3 && strcmp(word[1], "script") == 0) {
         print_script((unsigned)atoi(word[2]));
         return 0;
     }
-    if (words == 3) {
+    if (words < rest || words > rest + 1)
+        return usage();
+    if (!once) {
         effort.runs = (unsigned)atoi(word[1]);
         effort.batches = (unsigned)atoi(word[2]);
     }
-    if (words == 3 ? !fit(effort) : words != 2 || strcmp(word[1], "once") != 0)
+    if (!once && !fit(effort))
         return usage();
-    for (unsigned c = 0; c < case_count; c++)
-        measure_case(&cases[c]);
-    measure_growth();
+    if (words > rest)
+        measure_named(word[rest]);
+    else
+        measure_all();
     return failures != 0;
 }

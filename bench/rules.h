@@ -257,6 +257,22 @@ static uint8_t create(struct state *s, unsigned creator, unsigned driver, unsign
 
 /* -------------------------------------------------------- move and delete */
 
+/*
+ * Whether going from container to container leads from n to the object. Lent bytes may go in
+ * a circle without it: as many steps as there are other numbers pass all that n leads to.
+ */
+static int inside(const struct state *s, unsigned n, unsigned object)
+{
+    for (unsigned steps = 1; steps < THINGS; steps++) {
+        n = field(s, n, CONTAINER);
+        if (n == object)
+            return 1;
+        if (n == ROOT)
+            return 0;
+    }
+    return 0;
+}
+
 static uint8_t move(struct state *s, unsigned task, unsigned driver, unsigned object,
                     unsigned from, unsigned to)
 {
@@ -265,7 +281,8 @@ static uint8_t move(struct state *s, unsigned task, unsigned driver, unsigned ob
         return TUPEHIWO_NUMBER;
     if (field(s, object, DRIVER) != driver)
         return TUPEHIWO_DRIVER;
-    if (object == from || object == to || from == to || field(s, object, CONTAINER) != from)
+    if (object == from || object == to || from == to || field(s, object, CONTAINER) != from ||
+        inside(s, to, object))
         return TUPEHIWO_PLACE;
     if (!has(s, WRITES, task, from) || !has(s, WRITES, task, to) ||
         !has(s, WRITES, driver, from) || !has(s, WRITES, driver, to))

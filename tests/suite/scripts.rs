@@ -31,7 +31,7 @@ fn lines_of_every_length() {
 #[test]
 fn the_stories_in_examples() {
     let stories = cases::stories();
-    assert_eq!(stories.len(), 3);
+    assert_eq!(stories.len(), 4);
     stories.iter().for_each(must_print);
 }
 
