@@ -70,7 +70,8 @@ enum {
     TUPEHIWO_NUMBER = 4,  /* a number is 128 or more, free, or of the wrong kind */
     TUPEHIWO_TAKEN = 5,   /* a new number is in use */
     TUPEHIWO_DRIVER = 6,  /* the driver named is not the object's */
-    TUPEHIWO_PLACE = 7,   /* not in the container named, or things must differ */
+    TUPEHIWO_PLACE = 7,   /* not in the container named, things must differ, or a
+                             move would put an object inside itself */
     TUPEHIWO_HELD = 8,    /* an access or flow that is needed is not recorded */
     TUPEHIWO_SCALE = 9,   /* a level given is not below the count */
     TUPEHIWO_PATH = 10,   /* the path test of read or call fails */
@@ -300,7 +301,7 @@ static inline uint8_t tupehiwo_create_root(struct tupehiwo_monitor *m, uint64_t 
     return tupehiwo_do(m, TUPEHIWO_CODE_CREATE_ROOT, creator, driver, made, level, 0).verdict;
 }
 
-/* Moves an object from one container to another. */
+/* Moves an object from one container to another that does not lie anywhere inside it. */
 static inline uint8_t tupehiwo_move(struct tupehiwo_monitor *m, uint64_t task, uint64_t driver,
                                     uint64_t object, uint64_t from, uint64_t to)
 {

@@ -199,7 +199,7 @@ impl Monitor {
         self.ask(code::CREATE_ROOT, [creator, driver, new, level])
     }
 
-    /// Moves an object from one container to another.
+    /// Moves an object from one container to another that does not lie anywhere inside it.
     pub fn move_object(
         &mut self,
         task: u16,

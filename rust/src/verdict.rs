@@ -21,7 +21,8 @@ pub enum Verdict {
     Taken = 5,
     /// The driver named is not the object's.
     Driver = 6,
-    /// An object is not in the container named, or things that must differ are equal.
+    /// An object is not in the container named, things that must differ are equal, or a move
+    /// would put an object inside itself.
     Place = 7,
     /// An access or flow that is needed is not recorded.
     Held = 8,

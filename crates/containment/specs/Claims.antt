@@ -1,7 +1,7 @@
--- The claims of demand 3 and those about loads, each a short definition, for a state of either size; the proofs stand in Proved.antt.
+-- The claims of demand 3 and those about loads and containers, each a short definition, for a state of either size; the proofs stand in Proved.antt.
 -- Assumes nothing.
 use mathlib.Core.Path.{_≡_}
-use mathlib.Core.Bool.{Bool, true, false, _||_}
+use mathlib.Core.Bool.{Bool, true, false, _&&_, _||_}
 use mathlib.Core.Logic.{_⊎_, _↔_}
 use mathlib.Core.List.{List, [], _∷_, map, List·Memᴰ}
 use Prim.Native.Nat.{ℕ, _≤_, _<_}
@@ -13,9 +13,9 @@ use Rattle.levels.specs.Order.{atOrBelow, orderPasses}
 use Rattle.records.specs.Records.{recordSize, field, soundOf}
 use Rattle.layout.specs.Layout.{Layout, Fits, depth, mostDeep, written, mostBytes}
 use Rattle.model.specs.declared.Call.{Call}
-use Rattle.model.specs.declared.Call.the-variants.{Start, Mark, Spread}
-use Rattle.model.specs.Verdicts.{granted, isDone, row-state, row-order, row-number, row-taken, row-scale, row-rule, row-form, row-deep}
-use Rattle.model.specs.State.{MemoryOf, lengthsFit, inUse, task, object, isRoot, levelOf, driverOf, marked, hasFlow, hasRead, hasWrite}
+use Rattle.model.specs.declared.Call.the-variants.{Start, Move, Mark, Spread}
+use Rattle.model.specs.Verdicts.{granted, isDone, row-state, row-order, row-number, row-taken, row-place, row-scale, row-rule, row-form, row-deep}
+use Rattle.model.specs.State.{MemoryOf, lengthsFit, inUse, task, object, isRoot, liesIn, levelOf, driverOf, marked, hasFlow, hasRead, hasWrite}
 use Rattle.model.specs.Inside.{mostSteps, Leads, Inside, inside}
 use Rattle.model.specs.Spread.{marksSome}
 use Rattle.model.specs.Monitor.{started, perform}
@@ -164,10 +164,10 @@ UntouchedByLoad = (size : Size) (o : Order) (t : List ℕ) (s : StandingOf size)
 -- ---- containers
 
 -- "going from container to container ends at a root in at most 127 steps", from the object x
-pub record AtRoot {size : Size} (m : MemoryOf size) (x : ℕ) : Type 0 where
+pub record EndsAtRoot {size : Size} (m : MemoryOf size) (x : ℕ) : Type 0 where
   pub steps : ℕ
   pub end : ℕ
-  pub few : steps ≤ mostSteps size
+  pub at-most : steps ≤ mostSteps size
   pub leads : Leads m steps x end
   pub end-object : object m end ≡ true
   pub end-root : isRoot m end ≡ true
@@ -175,12 +175,27 @@ pub record AtRoot {size : Size} (m : MemoryOf size) (x : ℕ) : Type 0 where
 -- in every reached state, from every object
 abbrev pub Rooted : Type 0
 Rooted = (size : Size) (b : Item) (m : MemoryOf size) (is : List Item) → Reached b m is
-    → (x : ℕ) → object (run is (begun b m) .memory) x ≡ true → AtRoot (run is (begun b m) .memory) x
+    → (x : ℕ) → object (run is (begun b m) .memory) x ≡ true → EndsAtRoot (run is (begun b m) .memory) x
 
--- the walk that row 7 of a move tests by is exact on every sound memory, reached or not, circles or none: it finds y where some number of steps leads there
+-- the walk that a move is tested by comes to y exactly where one or more steps from x lead there, on every sound memory, reached or not, circles or none
 abbrev pub InsideExact : Type 0
 InsideExact = (size : Size) (o : Order) (m : MemoryOf size) → soundOf size o (m .bytes) ≡ true
     → (x y : ℕ) → object m x ≡ true → (inside m x y ≡ true) ↔ Inside m x y
+
+-- what row 7 refuses a move of x from f to t for
+pub data Misplaced {size : Size} (m : MemoryOf size) (x f t : ℕ) : Type 0 where
+  from-itself : x ≡ f → Misplaced m x f t
+  to-itself : x ≡ t → Misplaced m x f t
+  to-the-same : f ≡ t → Misplaced m x f t
+  not-there : liesIn m x f ≡ false → Misplaced m x f t
+  -- "the new container lies anywhere inside the object"
+  to-its-inside : Inside m t x → Misplaced m x f t
+
+-- where no row above applies, a move is refused with 7 for these and for nothing else
+abbrev pub MovePlace : Type 0
+MovePlace = (size : Size) (o : Order) (m : MemoryOf size) → lengthsFit m ≡ true → soundOf size o (m .bytes) ≡ true → orderPasses o ≡ true
+    → (e d x f t : ℕ) → (task m e && task m d && object m x && object m f && object m t) ≡ true → driverOf m x ≡ d
+    → (perform o m (Move e d x f t) .verdict ≡ row-place) ↔ Misplaced m x f t
 
 -- ---- free numbers
 

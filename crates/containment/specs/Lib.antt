@@ -13,6 +13,7 @@ pub mod CallsKeep
 pub mod LayoutCalls
 pub mod ItemsKeep
 pub mod SpreadProof
+pub mod PlaceProof
 pub mod Witness
 pub mod LoadProof
 pub mod Proved

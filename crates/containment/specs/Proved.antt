@@ -20,7 +20,6 @@ use Rattle.model.specs.State.{MemoryOf, task, driverOf, marked, hasFlow, hasRea
 use Rattle.model.specs.StateLaws.{outside-mark}
 use Rattle.model.specs.Effects.{withBytes, objectOf, mark-outside, effect, effects}
 use Rattle.model.specs.Events.{OutcomeOf, unless, firstFailing, verdictOf, outcome, mark}
-use Rattle.model.specs.InsideLaws as inside-laws
 use Rattle.model.specs.InsideLaws.{few-steps, leads-object}
 use Rattle.model.specs.Spread.{spread}
 use Rattle.model.specs.Monitor.{refusedUnless, fitted, start, started, perform}
@@ -31,12 +30,13 @@ use Rattle.model.specs.Load.{load, pastOrder}
 use Rattle.model.specs.LoadLaws.{past-rows, past-load, load-past}
 use Rattle.model.specs.Trials.{Q}
 use Rattle.containment.specs.Lists.{Item, asks, reports, loads, lent, StandingOf, Role, starting, marking, other, role, entered, next, run, Admitted, Admissible, leaves, begun, Begins, by-start, by-load}
-use Rattle.containment.specs.Claims.{Reached, Containment, Determined, LeavesSound, RepeatedMark, NeverUnsound, Rooted, InsideExact, FreeBare, DriversAbove, StartGranted, ListsBegin, OwnOrderReached, MarkGranted, SpreadGranted, GrantedUnreached}
+use Rattle.containment.specs.Claims.{Reached, Containment, Determined, LeavesSound, RepeatedMark, NeverUnsound, Rooted, FreeBare, DriversAbove, StartGranted, ListsBegin, OwnOrderReached, MarkGranted, SpreadGranted, GrantedUnreached}
 use Rattle.containment.specs.Tables.{Table, flows, reads, writes, has}
 use Rattle.containment.specs.Invariant.{standing, Joined, Limits, joins, Invariant, contained}
 use Rattle.containment.specs.ItemsKeep.{begun-keeps, run-keeps}
 use Rattle.containment.specs.Witness.{upward, upward-granted, upward-marks, none-leaves}
 pub use Rattle.containment.specs.SpreadProof.{spread-exact}
+pub use Rattle.containment.specs.PlaceProof.{inside-exact, move-place}
 pub use Rattle.containment.specs.LoadProof.{layout-gives, load-gives, loads-sound, refused-load, untouched-by-load, load-is-list, load-tells, load-rows}
 
 -- what a list leaves
@@ -120,10 +120,7 @@ rooted size b m is r x h =
     let o = run is (begun b m) .order in
     let e = i .rooted x h in
     let f = few-steps n o (i .is-sound) (e .0) x (e .1) (e .2) (e .4) h in
-    record { steps = f .0; end = f .1; few = omega (arith, f .2); leads = f .3; end-object = leads-object n o (i .is-sound) (f .0) x (f .1) (f .3) h; end-root = f .4 }
-
-pub inside-exact : InsideExact
-inside-exact size o m ok = inside-laws.inside-exact m o ok
+    record { steps = f .0; end = f .1; at-most = omega (arith, f .2); leads = f .3; end-object = leads-object n o (i .is-sound) (f .0) x (f .1) (f .3) h; end-root = f .4 }
 
 -- ---- free numbers, and objects and their drivers
 

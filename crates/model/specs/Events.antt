@@ -1,4 +1,4 @@
--- The events of document 01. Each is a table: its tests in the order of the rows of the verdicts, what only an honest driver enforces, and its effects.
+-- The events of document 01, the move as document 02 amends it. Each is a table: its tests in the order of the rows of the verdicts, what only an honest driver enforces, and its effects.
 -- Assumes nothing.
 use mathlib.Core.Bool.{Bool, true, not, cond, _&&_, _||_}
 use mathlib.Core.List.{List, [], _∷_}

@@ -1,4 +1,4 @@
--- Drawers: trials of the amended move, at the size in use, on states with circles too, which no list reaches.
+-- Drawers: trials of the amended move, at the size in use, on one state, which has circles and so is left by no list.
 -- Assumes nothing.
 use mathlib.Core.List.{List, [], _∷_}
 use Prim.Native.Nat.{ℕ}
@@ -29,7 +29,7 @@ holding (d ∷ ds) =
     memory (setRecord (m .bytes) (d .number) 2 3 0 0 (containerByte (d .place) present) 0 (spareByte (d .place) present))
     (addCell rowSize (m .words) (writeRow present 0) (d .number))
 
--- 2 in 1, 3 in 2, 4 in 3; 5 in 1 beside 2; 7 and 8 in one another; 9, 10 and 11 in a circle, and 12 in 11
+-- 1 a root, 2 in 1, 3 in 2, 4 in 3; 5 in 1 beside 2; 7 and 8 in one another; 9, 10 and 11 in a circle, and 12 in 11
 unfoldable pub drawers : Memory
 drawers = holding (at-root 1 ∷ 2 in- 1 ∷ 3 in- 2 ∷ 4 in- 3 ∷ 5 in- 1 ∷ 7 in- 8 ∷ 8 in- 7 ∷ 9 in- 10 ∷ 10 in- 11 ∷ 11 in- 9 ∷ 12 in- 11 ∷ [])
 
@@ -44,4 +44,6 @@ moves =
     -- into a circle that it is not in, and into what leads to one that it is in
     ∷ trial Q drawers (Move 0 0 2 1 7) 0 []
     ∷ trial Q drawers (Move 0 0 9 10 12) 7 []
+    -- out of a circle and into a root: that the old container lies inside it does not matter
+    ∷ trial Q drawers (Move 0 0 7 8 1) 0 []
     ∷ []

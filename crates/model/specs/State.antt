@@ -70,7 +70,7 @@ module _ {size : Size} where
   abbrev pub containerOf : MemoryOf size → ℕ → ℕ
   containerOf m x = records.container (m .bytes) x
 
-  -- the object x is in the container k
+  -- the object x is in the container k, not deeper
   abbrev pub liesIn : MemoryOf size → ℕ → ℕ → Bool
   liesIn m x k = records.liesWithin size (m .bytes) x k
 
