@@ -19,7 +19,7 @@ use Rattle.model.specs.State.{MemoryOf, lengthsFit, inUse, task, object, isRoot
 use Rattle.model.specs.Inside.{mostSteps, Leads, Inside, inside}
 use Rattle.model.specs.Spread.{marksSome}
 use Rattle.model.specs.Monitor.{started, perform}
-use Rattle.model.specs.Load.{layoutCalls, inTurn, load, pastOrder}
+use Rattle.model.specs.Load.{layoutCalls, load, pastOrder}
 use Rattle.containment.specs.Lists.{Item, asks, loads, lent, StandingOf, next, run, Admissible, begun, Begins}
 use Rattle.containment.specs.Chains.{Chain}
 

@@ -1,7 +1,7 @@
 -- What lies inside an object, and row 7 of a move: the claims on every sound memory, proved.
 -- Assumes nothing.
 use mathlib.Core.Path.{_≡_, refl, sym, ap, _∙_}
-use mathlib.Core.Bool.{Bool, true, false, not, _&&_, _||_, and-eq-true-iff, true≢false}
+use mathlib.Core.Bool.{Bool, true, false, not, _&&_, _||_, and-eq-true-iff}
 use mathlib.Core.Logic.{_⊎_, inl, inr, ⊎-elim}
 use Prim.Native.Nat.{ℕ}
 use native.Mathlib.Omega.{arith}
@@ -13,7 +13,6 @@ use Rattle.levels.specs.declared.Order.{Order}
 use Rattle.levels.specs.Order.{atOrBelow, orderPasses}
 use Rattle.records.specs.Records.{soundOf}
 use Rattle.model.specs.declared.Call.the-variants.{Move}
-use Rattle.model.specs.Verdicts.{row-place}
 use Rattle.model.specs.State.{MemoryOf, lengthsFit, task, object, levelOf, driverOf, liesIn, marked, hasWrite}
 use Rattle.model.specs.Inside.{inside}
 use Rattle.model.specs.InsideLaws as inside-laws

@@ -1,17 +1,16 @@
 -- Steps from container to container: the walk finds what lies inside, and where steps end at a root, few do.
 -- Assumes nothing.
 use mathlib.Core.Path.{_≡_, refl, sym, ap, _∙_}
-use mathlib.Core.Logic.{_↔_, inl, inr, ⊎-elim}
+use mathlib.Core.Logic.{_↔_, ⊎-elim}
 use mathlib.Core.Bool.{Bool, true, false, not, _&&_, _||_, true≢false, false≢true}
-use Prim.Native.Nat.{ℕ, zero, suc, _+_, _-_, _≤_, _<_}
+use Prim.Native.Nat.{ℕ, zero, suc, _<_}
 use native.Mathlib.Omega.{arith}
 use borrow.Author.Tests.{eqb-true, eq-eqb, not-true}
-use lib.Dec.{eqb}
-use Rattle.bits.specs.AllLaws.{either, and-i, and-l, and-r, or-cases, or-l, or-r, not-so}
+use Rattle.bits.specs.AllLaws.{and-i, and-l, and-r, or-cases, or-l, or-r}
 use Rattle.rows.specs.RowLaws.{some-number}
 use Rattle.rows.specs.Size.{Size, numbersOf}
 use Rattle.levels.specs.declared.Order.{Order}
-use Rattle.records.specs.Records.{kind, isObject, liesWithin, soundOf}
+use Rattle.records.specs.Records.{isObject, liesWithin, soundOf}
 use Rattle.records.specs.RecordLaws.{long, core-task, object-facts}
 use Rattle.model.specs.State.{MemoryOf, object, isRoot, containerOf, liesIn}
 use Rattle.model.specs.StateLaws.{object-used, used-below}

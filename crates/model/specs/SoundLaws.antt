@@ -27,7 +27,7 @@ use Rattle.model.specs.Inside.{inside}
 use Rattle.model.specs.Effects.{Effect, flow, flow-if, read-access, write-access, make-task, make-object, move-to, clear, mark-outside, mark-thing, objectOf, markWhere, effect, effects}
 use Rattle.model.specs.Events.{Event, outcome, read, write, execute, create, createRoot, move, delete, callTask, invoke, pass, post, find, mark, step}
 use Rattle.model.specs.Spread.{reached, driven, round, spread}
-use Rattle.model.specs.Monitor.{fitted, started, start, perform}
+use Rattle.model.specs.Monitor.{fitted, started, perform}
 use Rattle.model.specs.MarkLaws.{where-keeps}
 use Rattle.model.specs.SpreadLaws.{after-keeps, spread-more}
 use Rattle.model.specs.TableLaws.{Holds, refusals, event-done, fitted-done, start-done}

@@ -1,11 +1,10 @@
 -- A walk from number to number that looks for one that passes: as many steps as there are numbers but one find all that any number of steps finds.
 -- Assumes nothing.
-use mathlib.Core.Path.{_≡_, refl, sym, ap, _∙_}
+use mathlib.Core.Path.{_≡_, refl}
 use mathlib.Core.Logic.{_⊎_, inl, inr, ⊎-elim}
-use mathlib.Core.Bool.{Bool, true, false, not, _&&_, _||_, and-eq-true-iff, true≢false, false≢true}
-use Prim.Native.Nat.{ℕ, zero, suc, _+_, _-_, _≤_, _<_}
+use mathlib.Core.Bool.{Bool, true, false, _&&_, _||_, false≢true}
+use Prim.Native.Nat.{ℕ, zero, suc, _≤_, _<_}
 use native.Mathlib.Omega.{arith}
-use borrow.Author.Tests.{not-true}
 use Rattle.bits.specs.All.{allB, countB, _⇒_}
 use Rattle.bits.specs.AllLaws.{either, implies, and-i, and-l, and-r, or-cases, or-l, or-r, all-at, all-fails}
 use Rattle.bits.specs.LoopLaws.{count-le, count-more}
