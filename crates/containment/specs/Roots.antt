@@ -168,34 +168,29 @@ module _ {size : Size} where
       unfolding object isObject
       no-object v n k e d y q h = true≢false (sym h ∙ ap (λ (z : ℕ). eqb (kind (v .bytes) z) 2) (eqb-true y n q) ∙ rw e d)
 
-      here : (e : Effect) → Allowed o m e → soundOf size o (effect e m .bytes) ≡ true → (y : ℕ) → changes e y ≡ true → object (effect e m) y ≡ true → Ended (effect e m) y
+      -- the number whose record changes: if it is an object then, its steps end; and if an object's steps come to it, they end
+      touched : (e : Effect) → Allowed o m e → soundOf size o (effect e m .bytes) ≡ true → (y : ℕ) → changes e y ≡ true
+          → (object (effect e m) y ≡ true → Ended (effect e m) y) × ((x i : ℕ) → changes e x ≡ false → object m x ≡ true → Leads m i x y → Ended (effect e m) y)
       unfolding effect
-      here (flow p q) a ok y d h = absurd (false≢true d)
-      here (flow-if b p q) a ok y d h = absurd (false≢true d)
-      here (read-access p q) a ok y d h = absurd (false≢true d)
-      here (write-access p q) a ok y d h = absurd (false≢true d)
-      here (make-task n l r) a ok y d h = absurd (no-object _ n 1 (record-same (m .bytes) n 1 l r 0 0 0 0 size (long .bytes-long) (a .0) .kind-is) refl y d h)
-      here (make-object n l v p b) a ok y d h = rw (eqb-true y n d) (made n l v p b a ok)
-      here (move-to x c) a ok y d h = rw (eqb-true y x d) (moved x c a ok)
-      here (clear n) a ok y d h = absurd (no-object _ n 0 (record-same (m .bytes) n 0 0 0 0 0 0 0 size (long .bytes-long) (below n (a .0)) .kind-is) refl y d h)
-      here (mark-outside p) a ok y d h = absurd (false≢true d)
-      here (mark-thing p) a ok y d h = absurd (false≢true d)
-
-      there : (e : Effect) → Allowed o m e → soundOf size o (effect e m .bytes) ≡ true
-          → (x i y : ℕ) → changes e x ≡ false → object m x ≡ true → Leads m i x y → changes e y ≡ true → Ended (effect e m) y
-      there (flow p q) a ok x i y c h t d = absurd (false≢true d)
-      there (flow-if b p q) a ok x i y c h t d = absurd (false≢true d)
-      there (read-access p q) a ok x i y c h t d = absurd (false≢true d)
-      there (write-access p q) a ok x i y c h t d = absurd (false≢true d)
-      there (make-task n l r) a ok x i y c h t d = absurd (never-free n (a .1) x i y h t d)
-      there (make-object n l v p b) a ok x i y c h t d = absurd (never-free n (a .1) x i y h t d)
-      there (move-to p q) a ok x i y c h t d = rw (eqb-true y p d) (moved p q a ok)
-      there (clear n) a ok x i y c h t d = absurd (never-empty n (a .1) x i y c h t d)
-      there (mark-outside p) a ok x i y c h t d = absurd (false≢true d)
-      there (mark-thing p) a ok x i y c h t d = absurd (false≢true d)
+      touched (flow p q) a ok y d = absurd (false≢true d)
+      touched (flow-if b p q) a ok y d = absurd (false≢true d)
+      touched (read-access p q) a ok y d = absurd (false≢true d)
+      touched (write-access p q) a ok y d = absurd (false≢true d)
+      touched (make-task n l r) a ok y d = (
+        λ h. absurd (no-object _ n 1 (record-same (m .bytes) n 1 l r 0 0 0 0 size (long .bytes-long) (a .0) .kind-is) refl y d h),
+        λ x i c h t. absurd (never-free n (a .1) x i y h t d),
+      )
+      touched (make-object n l v p b) a ok y d = (λ h. rw (eqb-true y n d) (made n l v p b a ok), λ x i c h t. absurd (never-free n (a .1) x i y h t d))
+      touched (move-to p q) a ok y d = let e = moved p q a ok in (λ h. rw (eqb-true y p d) e, λ x i c h t. rw (eqb-true y p d) e)
+      touched (clear n) a ok y d = (
+        λ h. absurd (no-object _ n 0 (record-same (m .bytes) n 0 0 0 0 0 0 0 size (long .bytes-long) (below n (a .0)) .kind-is) refl y d h),
+        λ x i c h t. absurd (never-empty n (a .1) x i y c h t d),
+      )
+      touched (mark-outside p) a ok y d = absurd (false≢true d)
+      touched (mark-thing p) a ok y d = absurd (false≢true d)
 
       effect-ends : (e : Effect) → Allowed o m e → soundOf size o (effect e m .bytes) ≡ true → AllEnd (effect e m)
-      effect-ends e a ok = all-end m (effect e m) (changes e) (unchanged e a) ends (there e a ok) (here e a ok)
+      effect-ends e a ok = all-end m (effect e m) (changes e) (unchanged e a) ends (λ x i y c h t d. touched e a ok y d .1 x i c h t) (λ y d. touched e a ok y d .0)
 
 -- ---- calls
 
