@@ -21,17 +21,19 @@ loop-holds c = refl
 returns : tie.Need-returns Inv-loop μ-loop
 returns c =
     let t = c .before .before in
-    sym (step-found _ _ (c .before .field .ensures) _ (t .loop-test .taken) (c .if1 .taken)) ∙ t .before .loop .inv
+    let w = t .before .loop in
+    sym (step-found _ (w .at) (c .before .field .ensures) (w .left) (t .loop-test .taken) (c .if1 .taken)) ∙ w .inv
 
 returns-2 : tie.Need-returns-2 Inv-loop μ-loop
 returns-2 c =
-    let t = c .before .before .before in
-    sym (step-root _ _ (c .before .before .field .ensures) _ (c .before .if1 .left) (c .if2 .taken)) ∙ t .before .loop .inv
+    let w = c .before .before .before .before .loop in
+    sym (step-root _ (w .at) (c .before .before .field .ensures) (w .left) (c .before .if1 .left) (c .if2 .taken)) ∙ w .inv
 
 loop-again : tie.Need-loop-again Inv-loop μ-loop
 loop-again c =
     let t = c .before .before .before in
-    sym (step-on _ _ (c .before .before .field .ensures) _ (t .loop-test .taken) (c .before .if1 .left) (c .if2 .left)) ∙ t .before .loop .inv
+    let w = t .before .loop in
+    sym (step-on _ (w .at) (c .before .before .field .ensures) (w .left) (t .loop-test .taken) (c .before .if1 .left) (c .if2 .left)) ∙ w .inv
 
 returns-3 : tie.Need-returns-3 Inv-loop μ-loop
 returns-3 c =
