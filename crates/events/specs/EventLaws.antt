@@ -20,12 +20,12 @@ use Rattle.model.specs.State.{Memory, task, object, levelOf, readLevelOf, drive
 use Rattle.model.specs.Ready.{Ready}
 use Rattle.model.specs.Effects.{Effect, flow-if, read-access, write-access, move-to, clear, effect, effects}
 use Rattle.model.specs.Events.{Event, left, unless, firstFailing, verdictOf, outcome, read, write, move, delete}
+use Rattle.places.specs.Places.{bytesInside}
+use Rattle.places.specs.PlaceLaws.{inside-is}
 use Rattle.decisions.specs.declared.Decision.{Decision}
 use Rattle.decisions.specs.Decisions.{apart, readDecision, writeDecision, moveDecision, deleteDecision}
 use Rattle.decisions.specs.Facts.{writes, bothWrite}
 use Rattle.decisions.specs.DecisionLaws.{Told, told-tests, turned-away, under, apart-joins, task-small, object-small}
-use Rattle.places.specs.Places.{bytesInside}
-use Rattle.places.specs.PlaceLaws.{inside-is}
 use Rattle.events.specs.Judged.{allWrite, mayMove, moveNamed, isEmpty, driven, unlessFilled, moveRows, deleteRows, readDecided, writeDecided, moveDecided, deleteDecided, readJudged, writeJudged, moveJudged, deleteJudged}
 
 -- a flow that one of two conditions records, of which at most one holds, is recorded where either holds

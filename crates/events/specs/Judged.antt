@@ -12,9 +12,9 @@ use Rattle.levels.specs.Order.{atOrBelow}
 use Rattle.model.specs.Verdicts.{granted, row-number, row-driver, row-place, row-held, row-filled}
 use Rattle.model.specs.State.{Memory, levelOf, readLevelOf, marked}
 use Rattle.model.specs.Events.{unless, read, write, move, delete}
+use Rattle.places.specs.Places.{bytesInside}
 use Rattle.decisions.specs.declared.Decision.{Decision}
 use Rattle.decisions.specs.Facts.{writes, bothWrite}
-use Rattle.places.specs.Places.{bytesInside}
 use Rattle.decisions.specs.Decisions.{judged, readDecision, writeDecision, moveDecision, deleteDecision}
 
 -- ---- tests that the code makes in a function of their own
