@@ -70,15 +70,16 @@ last-unasked true false p l v n = refl
 last-unasked true true false l v n = refl
 last-unasked true true true l v n = absurd (n refl)
 
--- so is the walk of a move, with v told by the rest
+-- so is the walk of a move, with v told by the rows above it and by the other tests of its own
 module _ (bs ws : List ℕ) (e d x f t rest : ℕ) {v : ℕ} (is : v ≡ driven bs (moveNamed bs e d x f t) d x (unless (mayMove bs x f t) row-place granted)) where
-  pub walk-asked : v ≡ granted → unless (not (bytesInside bs t x)) row-place (unless (allWrite ws e d f t) row-held rest) ≡ moveRows bs ws e d x f t rest
+  pub walk-asked : {inside : Bool} {held : ℕ} → v ≡ granted → inside ≡ bytesInside bs t x → held ≡ unless (allWrite ws e d f t) row-held rest
+      → unless (not inside) row-place held ≡ moveRows bs ws e d x f t rest
   unfolding driven moveRows
-  walk-asked h = last-asked (moveNamed bs e d x f t) (eqb (driver bs x) d) (mayMove bs x f t) _ _ (sym is ∙ h)
+  walk-asked g i h = rw (i, h) (last-asked (moveNamed bs e d x f t) (eqb (driver bs x) d) (mayMove bs x f t) _ _ (sym is ∙ g))
 
   pub walk-unasked : (v ≡ granted → ⊥) → v ≡ moveRows bs ws e d x f t rest
   unfolding driven moveRows
-  walk-unasked h = is ∙ last-unasked (moveNamed bs e d x f t) (eqb (driver bs x) d) (mayMove bs x f t) _ _ (λ q. h (is ∙ q))
+  walk-unasked n = is ∙ last-unasked (moveNamed bs e d x f t) (eqb (driver bs x) d) (mayMove bs x f t) _ _ (λ q. n (is ∙ q))
 
 -- where the numbers are wrong, no container is asked
 filled-else : (a b : Bool) (v w : ℕ) → unlessFilled a (unless false row-number v) ≡ unlessFilled b (unless false row-number w)

@@ -15,10 +15,13 @@ returns-2 : tie.Need-returns-2
 returns-2 c =
     let w = c .before .before .before .before in
     let a = w .before in
-    simp (c .unless3 .ensures, c .before .lies-inside .ensures, c .before .before .unless2 .ensures, c .before .before .before .all-write .ensures)
-    (walk-asked _ _ _ _ _ _ _ _
+    let z = a .before .before .before .before .before .before .args in
+    c .unless3 .ensures
+    ∙ walk-asked (z .bytes .now) (z .words .now) (z .e) (z .d) (z .x) (z .f) (z .t) (z .rest)
     (simp (a .driven .ensures, a .before .move-named .ensures, a .before .before .unless .ensures, a .before .before .before .may-move .ensures) refl)
-    (w .if1 .left))
+    (w .if1 .left)
+    (c .before .lies-inside .ensures)
+    (simp (c .before .before .unless2 .ensures, c .before .before .before .all-write .ensures) refl)
 
 pub move-rows-spec : {M : Type 1} → statement M
 move-rows-spec =
