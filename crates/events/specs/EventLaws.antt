@@ -13,13 +13,15 @@ use Rattle.bits.specs.AllLaws.{either, any-ext}
 use Rattle.rows.specs.Size.{present, numbers}
 use Rattle.levels.specs.declared.Order.{Order}
 use Rattle.levels.specs.Order.{atOrBelow}
-use Rattle.records.specs.Records.{BytesLent, isObject, container}
+use Rattle.records.specs.Records.{BytesLent, isObject, driver, container}
 use Rattle.records.specs.KeepLaws.{lies-in}
 use Rattle.model.specs.Verdicts.{granted, slipped, row-number, row-driver, row-place, row-held, row-rule, row-filled}
 use Rattle.model.specs.State.{Memory, task, object, levelOf, readLevelOf, driverOf, liesIn, marked, hasWrite}
 use Rattle.model.specs.Ready.{Ready}
 use Rattle.model.specs.Effects.{Effect, flow-if, read-access, write-access, move-to, clear, effect, effects}
 use Rattle.model.specs.Events.{Event, left, unless, firstFailing, verdictOf, outcome, read, write, move, delete}
+use Rattle.places.specs.Places.{bytesInside}
+use Rattle.places.specs.PlaceLaws.{inside-is}
 use Rattle.decisions.specs.declared.Decision.{Decision}
 use Rattle.decisions.specs.Decisions.{apart, readDecision, writeDecision, moveDecision, deleteDecision}
 use Rattle.decisions.specs.Facts.{writes, bothWrite}
@@ -50,6 +52,34 @@ filled-last true true true true true true e = refl
 filled-last true true true true true false e = refl
 filled-last true true true true false true e = refl
 filled-last true true true true false false e = refl
+
+-- a last test of the row of the place is asked only where nothing up to it refuses
+last-asked : (number driver place last : Bool) (rest : ℕ) → unless number row-number (unless driver row-driver (unless place row-place granted)) ≡ granted
+    → unless last row-place rest ≡ unless number row-number (unless driver row-driver (unless (place && last) row-place rest))
+unfolding unless
+last-asked false d p l v e = absurd (omega arith)
+last-asked true false p l v e = absurd (omega arith)
+last-asked true true false l v e = absurd (omega arith)
+last-asked true true true l v e = refl
+
+last-unasked : (number driver place last : Bool) (rest : ℕ) → (unless number row-number (unless driver row-driver (unless place row-place granted)) ≡ granted → ⊥)
+    → unless number row-number (unless driver row-driver (unless place row-place granted)) ≡ unless number row-number (unless driver row-driver (unless (place && last) row-place rest))
+unfolding unless
+last-unasked false d p l v n = refl
+last-unasked true false p l v n = refl
+last-unasked true true false l v n = refl
+last-unasked true true true l v n = absurd (n refl)
+
+-- so is the walk of a move, with v told by the rows above it and by the other tests of its own
+module _ (bs ws : List ℕ) (e d x f t rest : ℕ) {v : ℕ} (is : v ≡ driven bs (moveNamed bs e d x f t) d x (unless (mayMove bs x f t) row-place granted)) where
+  pub walk-asked : {inside : Bool} {held : ℕ} → v ≡ granted → inside ≡ bytesInside bs t x → held ≡ unless (allWrite ws e d f t) row-held rest
+      → unless (not inside) row-place held ≡ moveRows bs ws e d x f t rest
+  unfolding driven moveRows
+  walk-asked g i h = rw (i, h) (last-asked (moveNamed bs e d x f t) (eqb (driver bs x) d) (mayMove bs x f t) _ _ (sym is ∙ g))
+
+  pub walk-unasked : (v ≡ granted → ⊥) → v ≡ moveRows bs ws e d x f t rest
+  unfolding driven moveRows
+  walk-unasked n = is ∙ last-unasked (moveNamed bs e d x f t) (eqb (driver bs x) d) (mayMove bs x f t) _ _ (λ q. n (is ∙ q))
 
 -- where the numbers are wrong, no container is asked
 filled-else : (a b : Bool) (v w : ℕ) → unlessFilled a (unless false row-number v) ≡ unlessFilled b (unless false row-number w)
@@ -128,11 +158,16 @@ module _ (o : Order) (m : Memory) where
         let honest = L x ⊑ L e in
         under (moveNamed (m .bytes) e d x f t) _ _ _
         (λ h. let p = simp and-eq-true-iff at h in
-        rw (lies x f (p .0 .1), lt-ltb e numbers (task-small m e (r .0) (p .0 .0 .0 .0)), lt-ltb d numbers (task-small m d (r .0) (p .0 .0 .0 .1)))
+        rw (
+          lies x f (p .0 .1),
+          inside-is o m (r .3) t x (p .1) (p .0 .0 .1),
+          lt-ltb e numbers (task-small m e (r .0) (p .0 .0 .0 .0)),
+          lt-ltb d numbers (task-small m d (r .0) (p .0 .0 .0 .1)),
+        )
         (ap
         (λ (v : ℕ).
         unless (eqb (driverOf m x) d) row-driver
-        (unless (mayMove (m .bytes) x f t) row-place
+        (unless (mayMove (m .bytes) x f t && not (bytesInside (m .bytes) t x)) row-place
         (unless (hasWrite m e f && hasWrite m e t && hasWrite m d f && hasWrite m d t) row-held v)))
         (ap (λ (b : Bool). unless (honest || marked m d) row-rule (unless b row-rule (unless honest slipped granted))) (and-comm (L x ⊑ L d) (L x ⊑ L t))
         ∙ apart-joins true (honest || marked m d) (L x ⊑ L t) (L x ⊑ L d) honest)))

@@ -12,6 +12,7 @@ use Rattle.levels.specs.Order.{atOrBelow}
 use Rattle.model.specs.Verdicts.{granted, row-number, row-driver, row-place, row-held, row-filled}
 use Rattle.model.specs.State.{Memory, levelOf, readLevelOf, marked}
 use Rattle.model.specs.Events.{unless, read, write, move, delete}
+use Rattle.places.specs.Places.{bytesInside}
 use Rattle.decisions.specs.declared.Decision.{Decision}
 use Rattle.decisions.specs.Facts.{writes, bothWrite}
 use Rattle.decisions.specs.Decisions.{judged, readDecision, writeDecision, moveDecision, deleteDecision}
@@ -45,7 +46,8 @@ unlessFilled empty v = unless (not (eqb v granted) || empty) row-filled v
 
 unfoldable pub moveRows : List ℕ → List ℕ → ℕ → ℕ → ℕ → ℕ → ℕ → ℕ → ℕ
 moveRows bs ws e d x f t rest =
-    driven bs (moveNamed bs e d x f t) d x (unless (mayMove bs x f t) row-place (unless (allWrite ws e d f t) row-held rest))
+    driven bs (moveNamed bs e d x f t) d x
+    (unless (mayMove bs x f t && not (bytesInside bs t x)) row-place (unless (allWrite ws e d f t) row-held rest))
 
 unfoldable pub deleteRows : List ℕ → List ℕ → ℕ → ℕ → ℕ → ℕ → ℕ → ℕ
 deleteRows bs ws e d x k rest =

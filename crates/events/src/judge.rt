@@ -20,6 +20,7 @@ use model::GRANTED;
 use model::HELD;
 use model::NUMBER;
 use model::PLACE;
+use places::lies_inside;
 use records::CONTAINER;
 use records::LEVEL;
 use records::READ_LEVEL;
@@ -101,12 +102,17 @@ fn move_named(bytes: &[u8], e: u16, d: u16, x: u16, f: u16, t: u16) -> bool
     are_named(bytes, e, d, x) & is_object(bytes, f) & is_object(bytes, t)
 }
 
+// The walk is made only where the rows above it, and the other causes of its own, have passed.
 fn move_rows(bytes: &[u8], words: &[u64], e: u16, d: u16, x: u16, f: u16, t: u16, rest: u8) -> u8
     ensures { λ r. ⌜ r ≡ moveRows (now (bytes .entry)) (now (words .entry)) e d x f t rest ⌝ }
 {
+    let place = unless(may_move(bytes, x, f, t), PLACE, GRANTED);
+    let above = driven(bytes, move_named(bytes, e, d, x, f, t), d, x, place);
+    if above != GRANTED {
+        return above;
+    }
     let held = unless(all_write(words, e, d, f, t), HELD, rest);
-    let row = unless(may_move(bytes, x, f, t), PLACE, held);
-    driven(bytes, move_named(bytes, e, d, x, f, t), d, x, row)
+    unless(!lies_inside(bytes, t, x), PLACE, held)
 }
 
 pub fn move_object(

@@ -183,7 +183,7 @@ module _ (size : Size) (o : Order) (bs : List ℕ) (ok : soundOf size o bs ≡ t
   -- ---- places
 
   -- the container byte of a root is no object's number
-  root-byte : (z : Size) → z ≡ size → kind bs (containerByte root z) ≡ 2 → ⊥
+  pub root-byte : (z : Size) → z ≡ size → kind bs (containerByte root z) ≡ 2 → ⊥
   root-byte small q h = omega (arith, field-past size bs (containerByte root small) 0 (long size o bs ok) (rw (← q) (omega arith)))
   root-byte large q h = omega (arith, core-task size o bs ok)
 
