@@ -5,10 +5,11 @@ use records::CONTAINER;
 use records::ROOT_SIGN;
 use rows::NUMBERS;
 
-// A walk to an object that meets none twice takes at most as many steps as there are other numbers.
+// A walk that meets no number twice has at most as many steps as there are other numbers.
 const MOST_STEPS: u16 = NUMBERS - 1;
 
-// Some steps from x come to y: x lies inside y. A root ends the walk, and the count of steps ends it where containers go in a circle.
+// Going from container to container, x comes to y: it lies inside y. A root ends the walk, and where the containers go in a circle,
+// the count of steps does.
 pub fn lies_inside(bytes: &[u8], x: u16, y: u16) -> bool
     ensures { λ r. ⌜ r ≡ bytesInside (now (bytes .entry)) x y ⌝ }
 {
