@@ -200,6 +200,18 @@ impl State {
         })
     }
 
+    /// All that lies anywhere inside an object: what lies in it, what lies in that, and so
+    /// on. Where containers go in a circle, an object may lie inside itself.
+    pub fn inside(&self, object: Number) -> BTreeSet<Number> {
+        let mut inside = BTreeSet::new();
+        let mut open = vec![object];
+        while let Some(container) = open.pop() {
+            let held = self.objects().filter(|(_, inner)| inner.container == Some(container));
+            open.extend(held.map(|(n, _)| n).filter(|&n| inside.insert(n)));
+        }
+        inside
+    }
+
     pub fn is_marked(&self, n: Number) -> bool {
         self.things.get(usize::from(n)).is_some_and(Thing::is_marked)
     }
