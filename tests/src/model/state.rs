@@ -212,6 +212,18 @@ impl State {
         inside
     }
 
+    /// From container to container, from that of an object on. A root ends it, and a circle
+    /// does not.
+    pub fn containers(&self, object: Number) -> impl Iterator<Item = Number> + Clone {
+        let container = |n: &Number| self.object(*n).ok().and_then(|object| object.container);
+        std::iter::successors(container(&object), container)
+    }
+
+    /// Whether an object lies in itself, by way of others.
+    pub fn is_in_itself(&self, object: Number) -> bool {
+        self.containers(object).take(THINGS).any(|outer| outer == object)
+    }
+
     pub fn is_marked(&self, n: Number) -> bool {
         self.things.get(usize::from(n)).is_some_and(Thing::is_marked)
     }
