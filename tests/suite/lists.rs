@@ -168,17 +168,17 @@ fn lists_from_a_start() {
     must_have_met_containers(&table, 500, false);
 }
 
-/// Moves into what lies inside the object, and those granted past it, each more often than
-/// `least`. Circles must be met where they can be.
+/// Moves refused because the new container lies inside the object, and moves granted, each
+/// more often than `least`. Circles must be met where there can be some.
 fn must_have_met_containers(table: &Table, least: u64, circles: bool) {
-    let refused = NESTED.map(|(_, how)| (how, table.causes.times(7, how)));
-    let granted = MOVED.map(|how| (how, table.causes.times(0, how)));
-    for told in [refused, granted] {
-        for (place, (how, times)) in told.into_iter().enumerate() {
-            println!("of the moves, {times} {how}");
-            let can_be = place < 2 || circles;
-            assert!(if can_be { times > least } else { times == 0 }, "{times} {how}");
-        }
+    let refused = NESTED.map(|(_, how)| ("refused", how, table.causes.times(7, how)));
+    let granted = MOVED.map(|how| ("granted", how, table.causes.times(0, how)));
+    let place = if circles { "on any memory" } else { "in lists" };
+    for (kind, (verdict, how, times)) in (0..3).chain(0..3).zip(refused.into_iter().chain(granted))
+    {
+        println!("of the moves {place}, {times} are {verdict}: {how}");
+        let can_be = kind < 2 || circles;
+        assert!(if can_be { times > least } else { times == 0 }, "{times} {verdict}: {how}");
     }
 }
 

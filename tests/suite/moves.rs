@@ -98,7 +98,8 @@ fn rows() -> [Vec<Number>; 3] {
     [rising, falling, mixed]
 }
 
-/// A chain of up to 126 under a root: at no length does any of it go into its end.
+/// A chain of up to 126 under a root: at no length does its top go into its end, nor
+/// what lies between.
 #[test]
 fn nothing_goes_into_the_end_of_its_chain() {
     for row in rows() {
@@ -106,8 +107,8 @@ fn nothing_goes_into_the_end_of_its_chain() {
         drawers.put(row[0], None);
         for end in 1..row.len() {
             drawers.put(row[end], Some(row[end - 1]));
-            for &object in &row[1..=end] {
-                drawers.must_stay(object, row[end]);
+            for place in [1, end.div_ceil(2), end] {
+                drawers.must_stay(row[place], row[end]);
             }
         }
     }
@@ -176,14 +177,14 @@ fn bent(row: &[Number], bend: usize) -> Vec<(Number, Option<Number>)> {
 }
 
 /// A circle through the object keeps it out of all that leads there; one that it only
-/// hangs in lets it in. The bends make circles of 127 to 2 objects.
+/// hangs in lets it in. The bends make circles of 127, 126, 64, 63 and 2.
 #[test]
 fn circles_and_tails_of_all_objects() {
     let last = THINGS - 2;
     for row in rows() {
-        for bend in [0, 1, 2, 62, 63, 64, last - 2, last - 1] {
+        for bend in [0, 1, 63, 64, last - 1] {
             let (mut drawers, containers) = (Drawers::started(), bent(&row, bend));
-            for place in [0, bend.saturating_sub(1), bend, bend + 1, last] {
+            for place in [0, bend.saturating_sub(1), bend, last] {
                 let from = if place == last { bend } else { place + 1 };
                 for end in 0..row.len() {
                     drawers.lend(&containers);
