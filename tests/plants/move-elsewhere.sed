@@ -1,1 +1,1 @@
-s/ || field(s, object, CONTAINER) != from)/)/
+s/ || field(s, object, CONTAINER) != from ||/ ||/

@@ -1,6 +1,6 @@
 //! Random calls that look at the state: most fit it, and some fail in one place.
 
-use crate::model::{Number, Pairs, State, THINGS, at_or_below};
+use crate::model::{Number, Object, Pairs, State, THINGS, at_or_below};
 use crate::request;
 use crate::rng::Rng;
 use tupehiwo::ffi::{Order, Request, code};
@@ -137,14 +137,32 @@ impl Author<'_> {
         vec![creator, driver, self.new_number(), container, self.level_under(container)]
     }
 
+    /// Now and then an object is to go into what lies inside it.
     fn moving(&mut self) -> Vec<Number> {
+        let nested = if self.rng.once_in(5) { self.nested() } else { None };
+        let [object, driver, from, to] = nested.unwrap_or_else(|| self.movable());
+        vec![self.writer(&[from, to]), driver, object, from, to]
+    }
+
+    /// Object, driver and containers of a move.
+    fn movable(&mut self) -> [Number; 4] {
         let (object, driver, from) = self.contained();
         let apt = |&(task, to): &(Number, Number)| {
             task == driver && to != from && to != object && self.state.object(to).is_ok()
         };
         let targets = self.state.writes.iter().copied().filter(apt).map(|(_, to)| to);
         let to = self.rng.pick_any(targets).unwrap_or_else(|| self.object());
-        vec![self.writer(&[from, to]), driver, object, from, to]
+        [object, driver, from, to]
+    }
+
+    /// The same with the new container anywhere inside the object, if there is one so.
+    fn nested(&mut self) -> Option<[Number; 4]> {
+        let to = self.object();
+        let around = self.state.containers(to).take(THINGS);
+        let objects = around.filter_map(|n| self.state.object(n).ok().map(|object| (n, object)));
+        let contained = objects.filter(|(_, object)| object.container.is_some());
+        let (object, Object { driver, container, .. }) = self.rng.pick_any(contained)?;
+        Some([object, driver, container?, to])
     }
 
     fn task(&mut self) -> Number {

@@ -124,17 +124,28 @@ fn with_things(rng: &mut Rng, order: &Order, used: &[Number]) -> State {
     let core = Task { level: order.top, ..random_task(rng, order.count) };
     state.put(0, Thing::Task(core));
     tasks.push(0);
-    for &n in &objects {
-        let within = rng.pick(&objects);
+    for (&n, container) in objects.iter().zip(containers(rng, &objects)) {
         let object = Object {
             level: level(rng, order.count),
             driver: rng.pick(&tasks),
-            container: (within != n && !rng.once_in(4)).then_some(within),
+            container,
             marked: rng.once_in(3),
         };
         state.put(n, Thing::Object(object));
     }
     state
+}
+
+/// A container, or none, for each of these objects. In one of three shapes most lie in the
+/// next: the ways to a root are long there, and so are the circles.
+pub fn containers(rng: &mut Rng, objects: &[Number]) -> Vec<Option<Number>> {
+    let (elsewhere, roots) = rng.pick(&[(1, 4), (1, 4), (1, 4), (1, 4), (30, 60), (500, 500)]);
+    let container = |place: usize| {
+        let next = objects[(place + 1) % objects.len()];
+        let within = if rng.once_in(elsewhere) { rng.pick(objects) } else { next };
+        (within != objects[place] && !rng.once_in(roots)).then_some(within)
+    };
+    (0..objects.len()).map(container).collect()
 }
 
 /// A level below the count that a byte can hold; 0 if there is none.
@@ -191,7 +202,7 @@ pub fn unreached(state: &State, order: &Order) -> [(&'static str, bool); 9] {
         ("a bit in the row of a free number", pairs().any(|&(row, _)| is_free(row))),
         ("a bit in the column of a free number", pairs().any(|&(_, end)| is_free(end))),
         ("an access of an object", state.reads.iter().any(|&(row, _)| state.object(row).is_ok())),
-        ("a circle of containers", state.objects().any(|(n, _)| is_in_itself(state, n))),
+        ("a circle of containers", state.objects().any(|(n, _)| state.is_in_itself(n))),
         (
             "an object not at or below its driver",
             any_object(&|object| exceeds(Some(object.level), level(object.driver))),
@@ -213,10 +224,4 @@ pub fn unreached(state: &State, order: &Order) -> [(&'static str, bool); 9] {
             none_outside && state.flows.iter().any(|&(from, to)| exceeds(level(to), level(from))),
         ),
     ]
-}
-
-/// Whether an object lies in itself, by way of others.
-fn is_in_itself(state: &State, object: Number) -> bool {
-    let container = |n: &Number| state.object(*n).ok().and_then(|object| object.container);
-    std::iter::successors(container(&object), container).take(THINGS).any(|outer| outer == object)
 }

@@ -1,11 +1,15 @@
 //! Calls that nearly fit: one that is granted, with some of what it looks at
 //! changed. Each test of each call then is, some time, the only one that fails.
 
+use std::iter;
+
 use tupehiwo::ffi::{Order, Request, code};
 use tupehiwo_tests::author::{Author, EDGES};
 use tupehiwo_tests::causes::how_many;
 use tupehiwo_tests::compare::Pair;
-use tupehiwo_tests::model::{Lengths, Mark, Model, Number, Object, Pairs, State, Task, Thing};
+use tupehiwo_tests::model::{
+    Lengths, Mark, Model, Number, Object, Pairs, State, THINGS, Task, Thing,
+};
 use tupehiwo_tests::request;
 use tupehiwo_tests::rng::{Rng, seed};
 use tupehiwo_tests::table::{Table, sum_of};
@@ -139,9 +143,19 @@ impl Scene {
         }
     }
 
+    /// A move's new container or one of those around it, and the object, now and then.
+    fn nesting(&self, rng: &mut Rng) -> Option<(Number, Number)> {
+        let Request { code, c, e, .. } = self.request;
+        let around = self.state.containers(e).take(THINGS);
+        let nesting = code == code::MOVE && c < 128 && rng.once_in(3);
+        let outer = if nesting { rng.pick_any(iter::once(e).chain(around)) } else { None };
+        outer.map(|outer| (outer, c))
+    }
+
     /// Another driver or container, a thing of the right kind or not.
     fn change_place(&mut self, rng: &mut Rng) {
-        let (n, other) = (self.number(rng), self.number(rng));
+        let nesting = self.nesting(rng);
+        let (n, other) = nesting.unwrap_or_else(|| (self.number(rng), self.number(rng)));
         if let Ok(object) = self.state.object(n) {
             let container = (!rng.once_in(3)).then_some(other);
             let changed = match rng.below(2) {

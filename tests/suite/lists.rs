@@ -4,8 +4,9 @@ use std::collections::{BTreeMap, BTreeSet};
 
 use tupehiwo::ffi::{Order, Request, code};
 use tupehiwo_tests::author::Author;
+use tupehiwo_tests::causes::{MOVED, NESTED};
 use tupehiwo_tests::compare::Pair;
-use tupehiwo_tests::model::{Lengths, Model, Number, State, at_or_below};
+use tupehiwo_tests::model::{Lengths, Model, Number, State, THINGS, at_or_below};
 use tupehiwo_tests::request;
 use tupehiwo_tests::rng::{Rng, seed};
 use tupehiwo_tests::table::{Table, sum_of};
@@ -104,6 +105,15 @@ impl List {
         if wanted { other } else { self.order }
     }
 
+    /// From container to container, at most 127 steps lead from every object to a root.
+    fn must_end_at_roots(&self) {
+        let state = &self.pair.model.state;
+        for (n, _) in state.objects() {
+            let steps = state.containers(n).take(THINGS).count();
+            assert!(steps < THINGS, "from {n} no root is reached: {state:?}");
+        }
+    }
+
     /// The two limits on levels, which every state of a list keeps.
     fn must_keep_the_limits(&self) {
         let state = &self.pair.model.state;
@@ -143,6 +153,7 @@ fn one_list(seed: u64) -> Table {
         if call % 100 == 0 {
             list.must_keep_the_limits();
         }
+        list.must_end_at_roots();
     }
     list.pair.table
 }
@@ -154,6 +165,21 @@ fn lists_from_a_start() {
     println!("{} calls in lists from a start\n{table}", table.calls());
     assert!(table.calls() > 1_000_000);
     table.must_be_complete();
+    must_have_met_containers(&table, 500, false);
+}
+
+/// Moves refused because the new container lies inside the object, and moves granted, each
+/// more often than `least`. Circles must be met where there can be some.
+fn must_have_met_containers(table: &Table, least: u64, circles: bool) {
+    let refused = NESTED.map(|(_, how)| ("refused", how, table.causes.times(7, how)));
+    let granted = MOVED.map(|how| ("granted", how, table.causes.times(0, how)));
+    let place = if circles { "on any memory" } else { "in lists" };
+    for (kind, (verdict, how, times)) in (0..3).chain(0..3).zip(refused.into_iter().chain(granted))
+    {
+        println!("of the moves {place}, {times} are {verdict}: {how}");
+        let can_be = kind < 2 || circles;
+        assert!(if can_be { times > least } else { times == 0 }, "{times} {verdict}: {how}");
+    }
 }
 
 /// In how many memories each was found that no list of calls leaves.
@@ -203,6 +229,7 @@ fn calls_on_any_memory() {
     }
     println!("{} calls on any memory\n{table}", table.calls());
     table.must_be_complete();
+    must_have_met_containers(&table, 20, true);
     for (what, memories) in unreached {
         println!("that no list leaves, in {memories} memories of {MEMORIES}: {what}");
         assert!(memories > MEMORIES / 50);

@@ -2,7 +2,7 @@
 //! failed, or what let the call through.
 
 use super::{Made, Reason, single};
-use crate::model::{Number, Task, at_or_below};
+use crate::model::{Number, THINGS, Task, at_or_below};
 use tupehiwo::ffi::{Order, code};
 
 /// The things that must differ, and where an object has to be.
@@ -12,6 +12,13 @@ const PLACES: [Reason; 5] = [
     ("object", "equal to the first container"),
     ("object", "equal to the second container"),
     ("containers", "equal"),
+];
+
+/// How a move's second container lies inside the object.
+pub const NESTED: [Reason; 3] = [
+    ("second container", "in the object"),
+    ("second container", "deeper inside the object"),
+    ("second container", "inside the object, as is the object itself"),
 ];
 
 /// What has to be recorded, in the order of `recorded`.
@@ -60,6 +67,9 @@ const READ_BY: [&str; 3] =
     ["by levels", "the object by the read level alone", "by the read level alone"];
 const SLIPPED_BY: [&str; 2] = ["slipped", "slipped, the driver by the read level alone"];
 const CALLED_BY: [&str; 2] = ["by levels", "by the read level alone"];
+/// Where a granted move leads.
+pub const MOVED: [&str; 3] =
+    ["into a root", "into what lies in others", "into or towards a circle"];
 const PASSED: [&str; 3] = ["safe", "safe, marked", "risky, marked"];
 const MARKED: [&str; 4] = ["none marked", "asker marked", "other marked", "both marked"];
 const STEPPED: [&str; 2] = ["a task", "an object"];
@@ -67,7 +77,7 @@ const STEPPED: [&str; 2] = ["a task", "an object"];
 /// Every cause of these verdicts, with its call's code.
 pub fn all() -> Vec<(u8, u16, Reason)> {
     let mut all = Vec::new();
-    all.extend(PLACES.map(|reason| (7, code::MOVE, reason)));
+    all.extend(PLACES.iter().chain(&NESTED).map(|&reason| (7, code::MOVE, reason)));
     all.extend(PLACES[..3].iter().map(|&reason| (7, code::DELETE, reason)));
     for (code, reasons) in HELD {
         all.extend(reasons.iter().map(|&reason| (8, code, reason)));
@@ -95,9 +105,11 @@ fn all_done() -> Vec<(u8, u16, Reason)> {
     for marked in &MARKED[2..] {
         all.extend(SLIPPED_BY.map(|how| (1, code::READ, (*marked, how))));
     }
-    use code::{CREATE, CREATE_ROOT, DELETE, EXECUTE, INVOKE, MOVE, WRITE};
-    for code in [WRITE, EXECUTE, CREATE, CREATE_ROOT, MOVE, DELETE, INVOKE] {
-        all.extend([MARKED[0], MARKED[2]].map(|marked| (0, code, (marked, "done"))));
+    use code::{CREATE, CREATE_ROOT, DELETE, EXECUTE, INVOKE, WRITE};
+    for marked in [MARKED[0], MARKED[2]] {
+        let codes = [WRITE, EXECUTE, CREATE, CREATE_ROOT, DELETE, INVOKE];
+        all.extend(codes.map(|code| (0, code, (marked, "done"))));
+        all.extend(MOVED.map(|how| (0, code::MOVE, (marked, how))));
     }
     for code in [code::PASS, code::POST] {
         all.extend(PASSED.map(|how| (0, code, ("read", how))));
@@ -128,12 +140,22 @@ fn place(made: &Made) -> Option<Reason> {
     };
     let container = made.state.object(object).ok()?.container;
     let inside = container == Some(from);
-    match (object == from, moving && object == to, moving && from == to) {
-        (true, false, false) => Some(PLACES[2]),
-        (false, true, false) if inside => Some(PLACES[3]),
-        (false, false, true) if inside => Some(PLACES[4]),
-        (false, false, false) => Some(PLACES[usize::from(container.is_some())]),
+    let nested = moving && made.state.inside(object).contains(&to);
+    match (object == from, moving && object == to, moving && from == to, nested) {
+        (true, false, false, false) => Some(PLACES[2]),
+        (false, true, false, false) if inside => Some(PLACES[3]),
+        (false, false, true, false) if inside => Some(PLACES[4]),
+        (false, false, false, true) if inside => Some(nested_in(made, object, to)),
+        (false, false, false, false) => Some(PLACES[usize::from(container.is_some())]),
         _ => None,
+    }
+}
+
+fn nested_in(made: &Made, object: Number, to: Number) -> Reason {
+    let next = made.state.containers(to).next();
+    match made.state.is_in_itself(object) {
+        true => NESTED[2],
+        false => NESTED[usize::from(next != Some(object))],
     }
 }
 
@@ -261,7 +283,7 @@ fn done(made: &Made, verdict: u8) -> Option<Reason> {
     let [a, b, c, ..] = made.arguments();
     let marked = |n| made.state.is_marked(n);
     let pair = |asker, other| MARKED[2 * usize::from(marked(other)) + usize::from(marked(asker))];
-    let other = |n| Some((MARKED[2 * usize::from(marked(n))], "done"));
+    let other = |n| MARKED[2 * usize::from(marked(n))];
     match made.request.code {
         code::READ => Some((pair(a, b), read_by(made, verdict)?)),
         code::CALL => {
@@ -269,13 +291,14 @@ fn done(made: &Made, verdict: u8) -> Option<Reason> {
             let alone = !at_or_below(made.order, caller.level, callee.level);
             Some((pair(a, b), CALLED_BY[usize::from(alone)]))
         }
-        code::INVOKE => other(a),
+        code::INVOKE => Some((other(a), "done")),
         code::PASS => Some(("read", passed(made, a, b)?)),
         code::POST => Some(("read", passed(made, c, b)?)),
         code::STEP => Some(("x", STEPPED[usize::from(made.state.object(a).is_ok())])),
         code::WRITE | code::MOVE if verdict == 1 => None,
+        code::MOVE => Some((other(b), moved(made))),
         code::START | code::FIND | code::MARK | code::SPREAD => None,
-        _ => other(b),
+        _ => Some((other(b), "done")),
     }
 }
 
@@ -286,6 +309,15 @@ fn read_by(made: &Made, verdict: u8) -> Option<&'static str> {
     let driver = usize::from(fails(made.state.task(driver).ok()?.level));
     let object = usize::from(fails(made.state.object(object).ok()?.level));
     Some(if verdict == 1 { SLIPPED_BY[driver] } else { READ_BY[driver + object] })
+}
+
+/// What its new container lies in, a move leaves alone.
+fn moved(made: &Made) -> &'static str {
+    match made.state.containers(made.request.e).take(THINGS).count() {
+        0 => MOVED[0],
+        THINGS => MOVED[2],
+        _ => MOVED[1],
+    }
 }
 
 fn passed(made: &Made, reader: Number, object: Number) -> Option<&'static str> {

@@ -9,6 +9,7 @@ mod loads;
 mod memory;
 mod numbers;
 
+pub use events::{MOVED, NESTED};
 pub use loads::Loaded;
 pub use numbers::how_many;
 
@@ -101,6 +102,12 @@ impl Causes {
         for (&cause, count) in &other.0 {
             *self.0.entry(cause).or_default() += count;
         }
+    }
+
+    /// How often this verdict had a cause that was like this.
+    pub fn times(&self, verdict: u8, like: &str) -> u64 {
+        let alike = |cause: &Cause| cause.verdict == verdict && cause.reason.1 == like;
+        self.0.iter().filter(|(cause, _)| alike(cause)).map(|(_, count)| count).sum()
     }
 
     /// Panics unless each cause that there can be occurred, and no other.

@@ -97,6 +97,7 @@ impl Event<'_> {
         let (task, driver, object) = self.three(e, d, o)?;
         let differ = o != from && o != to && from != to;
         require(differ && object.container == Some(from), Verdict::Place)?;
+        require(!self.state.inside(o).contains(&to), Verdict::Place)?;
         let needed = [(e, from), (e, to), (d, from), (d, to)];
         require(holds(&self.state.writes, &needed), Verdict::Held)?;
         require(self.le(object.level, driver.level), Verdict::Rule)?;

@@ -200,6 +200,30 @@ impl State {
         })
     }
 
+    /// All that lies anywhere inside an object: what lies in it, what lies in that, and so
+    /// on. Where containers go in a circle, an object may lie inside itself.
+    pub fn inside(&self, object: Number) -> BTreeSet<Number> {
+        let mut inside = BTreeSet::new();
+        let mut open = vec![object];
+        while let Some(container) = open.pop() {
+            let held = self.objects().filter(|(_, inner)| inner.container == Some(container));
+            open.extend(held.map(|(n, _)| n).filter(|&n| inside.insert(n)));
+        }
+        inside
+    }
+
+    /// From container to container, from that of an object on. A root ends it, and a circle
+    /// does not.
+    pub fn containers(&self, object: Number) -> impl Iterator<Item = Number> + Clone {
+        let container = |n: &Number| self.object(*n).ok().and_then(|object| object.container);
+        std::iter::successors(container(&object), container)
+    }
+
+    /// Whether an object lies in itself, by way of others.
+    pub fn is_in_itself(&self, object: Number) -> bool {
+        self.containers(object).take(THINGS).any(|outer| outer == object)
+    }
+
     pub fn is_marked(&self, n: Number) -> bool {
         self.things.get(usize::from(n)).is_some_and(Thing::is_marked)
     }

@@ -1,0 +1,1 @@
+/^static int inside(/,/^}/s/steps < THINGS/steps < 64/

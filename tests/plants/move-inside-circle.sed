@@ -1,0 +1,1 @@
+/^static int inside(/,/^}/s/^    return 0;/    return 1;/

@@ -1,0 +1,1 @@
+s/^        inside(s, to, object))$/        inside(s, object, to))/

@@ -1,0 +1,1 @@
+/^        inside(s, to, object))$/s/inside(s, to, object)/0/
