@@ -5,7 +5,7 @@
 #   awk -v form=growth    tables of growth, the smallest plain time being 1
 #   awk -v form=trail     the ratio of the script programs
 #
-# -v unit=WORD says what was measured in form=text: ns, or instructions.
+# In form=text, -v unit=WORD says what was measured, ns or instructions, and -v sides='A B' on what.
 
 NF == 7 {
     key = $1 " " $2 " " $3 " " $4 " " $5
@@ -22,9 +22,10 @@ function ratio(key) { return sprintf("%.2f", proved[key] / plain[key]) }
 
 function spoken(name) { gsub(/_/, " ", name); return name }
 
-function text(    i, part) {
+function text(    i, part, side) {
+    split(sides, side)
     printf "%-8s %-34s %6s %6s %6s %10s %10s %6s\n", "table", "case", "in use", "levels",
-        "rounds", "plain " unit, "proved " unit, "ratio"
+        "rounds", side[1] " " unit, side[2] " " unit, "ratio"
     for (i = 1; i <= count; i++) {
         split(keys[i], part)
         printf "%-8s %-34s %6s %6s %6s %10.1f %10.1f %6s\n", part[1], spoken(part[2]), part[3],

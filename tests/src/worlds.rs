@@ -1,9 +1,11 @@
 //! Random orders and random memory.
 
+use std::ops::Range;
+
 use crate::model::{
     Lengths, Mark, Number, Object, Pairs, State, THINGS, Task, Thing, at_or_below, passes,
 };
-use crate::rng::Rng;
+use crate::rng::{Rng, seed};
 use tupehiwo::ffi::{Order, Tally};
 
 /// The paper's order Q: a diamond with 0 lowest and 3 the top.
@@ -30,6 +32,15 @@ pub fn order(rng: &mut Rng) -> Order {
         }
     }
     Order { rows, count: count as u16, top: top as u16 }
+}
+
+/// Numbers rising, falling and mixed.
+pub fn rows(numbers: Range<Number>) -> [Vec<Number>; 3] {
+    let rising: Vec<Number> = numbers.collect();
+    let falling = rising.iter().rev().copied().collect();
+    let mut mixed = rising.clone();
+    Rng::new(seed("rows")).shuffle(&mut mixed);
+    [rising, falling, mixed]
 }
 
 /// An order that is near to a given one, or far from any: it may fail or pass.

@@ -89,13 +89,9 @@ impl Drawers {
     }
 }
 
-/// All numbers of objects: rising, falling and mixed.
+/// All numbers of objects, in three orders.
 fn rows() -> [Vec<Number>; 3] {
-    let rising: Vec<Number> = (1..THINGS as Number).collect();
-    let falling = rising.iter().rev().copied().collect();
-    let mut mixed = rising.clone();
-    Rng::new(seed("rows")).shuffle(&mut mixed);
-    [rising, falling, mixed]
+    worlds::rows(1..THINGS as Number)
 }
 
 /// A chain of up to 126 under a root: at no length does its top go into its end, nor

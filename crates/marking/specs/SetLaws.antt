@@ -1,22 +1,24 @@
 -- Laws of sets: those of words and of rows, at the words that a set has.
 -- Assumes nothing.
 use mathlib.Core.Path.{_≡_, refl, sym, ap, ap₂, _∙_}
-use mathlib.Core.Bool.{Bool, true, false, not, _&&_, _||_}
+use mathlib.Core.Bool.{Bool, true, false, not, _&&_, _||_, and-eq-true-iff}
 use mathlib.Core.List.{List, [], _∷_}
-use Prim.Native.Nat.{ℕ, _+_, _-_, _*_, _^_, _<_}
+use Prim.Native.Nat.{ℕ, _+_, _-_, _*_, _^_, _≤_, _<_}
 use native.Mathlib.Nat.{add-zero}
+use native.Mathlib.Omega.{arith}
 use lib.Bits.{bitAnd, bitOr, and-lt, or-lt}
 use lib.Dec.{eqb}
 use lib.ListN.{getD}
 use lib.Pow.{ones-sub-lt}
+use borrow.Author.Tests.{leb-true}
 use Rattle.bits.specs.Bit.{bit, wordOf, inWords, wordsOf, wordsBy}
-use Rattle.bits.specs.BitLaws.{bit-ext, bit-and, bit-or, bit-not}
+use Rattle.bits.specs.BitLaws.{bit-below, bit-ext, bit-and, bit-or, bit-not}
 use Rattle.bits.specs.WordsLaws.{Fit, fit-none, fit-more, in-zeros, none-in, in-words, words-are, words-ext, in-each}
 use Rattle.bits.specs.All.{allB, anyB}
 use Rattle.rows.specs.Size.{rowSize, numbers}
 use Rattle.rows.specs.Rows.{cell}
 use Rattle.marking.specs.declared.sets.Set.{Set}
-use Rattle.marking.specs.Sets.{words, ofWords, has, setOf, inWord, joined}
+use Rattle.marking.specs.Sets.{Within, words, ofWords, has, setOf, inWord, joined}
 use Rattle.marking.specs.WalkLaws.{in-some, someOf, some-ext, some-or, in-row}
 
 abbrev pub pair : ℕ → ℕ → Set
@@ -51,6 +53,11 @@ set-ext p q e = ap ofWords (words-ext rowSize p q e)
 pub set-pair : (p : ℕ → Bool) {a b : ℕ} → a ≡ wordOf (λ i. p (0 + i)) → b ≡ wordOf (λ i. p (64 + i)) → pair a b ≡ setOf p
 unfolding setOf wordsOf wordsBy
 set-pair p e f = ap₂ pair e f
+
+-- the numbers of a word are the 64 from its first on
+pub word-within : (w k : ℕ) → w < 2 ^ 64 → k + 64 ≤ numbers → Within (inWord w k)
+unfolding inWord
+word-within w k h l y e = let p = simp and-eq-true-iff at e in omega (arith, leb-true k y (p .0), bit-below 64 w (y - k) h (p .1))
 
 pub has-words : (s : Set) → Fit (words s) → (y : ℕ) → y < numbers → has s y ≡ (inWord (s .low) 0 y || inWord (s .high) 64 y)
 unfolding has anyB

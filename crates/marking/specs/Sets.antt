@@ -1,6 +1,7 @@
 -- Sets of numbers, a bit for each, in two words, as many as a row has at the size in use.
 -- Assumes nothing.
-use mathlib.Core.Bool.{Bool, _&&_}
+use mathlib.Core.Path.{_≡_}
+use mathlib.Core.Bool.{Bool, true, _&&_}
 use mathlib.Core.List.{List, [], _∷_}
 use Prim.Native.Nat.{ℕ, _-_, _*_, _≤_}
 use lib.Dec.{leb}
@@ -10,6 +11,14 @@ use Rattle.bits.specs.All.{anyB}
 use Rattle.rows.specs.Size.{rowSize, numbers}
 use Rattle.rows.specs.Rows.{cell}
 use Rattle.marking.specs.declared.sets.Set.{Set}
+
+-- the last number, 127 at the small size and 255 at the large
+abbrev pub last : ℕ
+last = numbers - 1
+
+-- no number that passes exceeds it
+abbrev pub Within : (ℕ → Bool) → Type 0
+Within q = (x : ℕ) → q x ≡ true → x ≤ last
 
 -- the words of a set, and the set of such words
 abbrev pub words : Set → List ℕ

@@ -8,9 +8,9 @@ use Prim.Native.Nat.{ℕ, zero, suc, _+_, _-_, _≤_, _<_}
 use native.Mathlib.Nat.{zero-add}
 use native.Mathlib.Omega.{arith}
 use borrow.Author.Tests.{not-true}
-use Rattle.bits.specs.All.{anyB, countB}
-use Rattle.bits.specs.AllLaws.{either, any-ext, any-i, any-at, not-so, and-i, and-true, and-false}
-use Rattle.bits.specs.LoopLaws.{count-le}
+use Rattle.bits.specs.All.{allB, anyB, _⇒_, countB}
+use Rattle.bits.specs.AllLaws.{either, any-ext, any-i, any-at, all-at, not-so, and-i, and-true, and-false}
+use Rattle.bits.specs.LoopLaws.{count-le, count-more}
 use Rattle.rows.specs.Size.{rowSize, numbers}
 use Rattle.rows.specs.Rows.{cell}
 use Rattle.model.specs.State.{Memory, inUse, marked}
@@ -21,7 +21,7 @@ use Rattle.model.specs.MarkLaws.{MoreMarks, more-none, more-then, kept-inUse, k
 use Rattle.model.specs.SpreadLaws.{Sized, Closed, sized-more, byFlows, round-only, more-round, marked-round, unmarked, round-fewer, rest-rounds, after-keeps, spread-only}
 use Rattle.marking.specs.declared.sets.Set.{Set}
 use Rattle.marking.specs.declared.rounds.Spread.{Spread}
-use Rattle.marking.specs.Sets.{has, setOf, joined}
+use Rattle.marking.specs.Sets.{last, has, setOf, joined}
 use Rattle.marking.specs.SetLaws.{in-set, set-ext}
 use Rattle.marking.specs.WalkLaws.{joined-ext}
 use Rattle.marking.specs.MarksLaws.{Marks, marks-none, marks-ext, marks-then, marks-where, marks-same, kept-objectOf}
@@ -86,21 +86,32 @@ pub record Spreading (m : Memory) (k : ℕ) (left src : Set) : Type 0 where
   pub more : MoreMarks m now
   pub counted : rounds numbers m ≡ k + rounds (numbers - k) now
   pub after : afterRounds numbers m ≡ afterRounds (numbers - k) now
-  pub few : k + countB numbers (unmarked now) ≤ numbers
+  pub few : k + countB numbers (unmarked now) ≤ last
   pub left-is : left ≡ setOf (λ x. unmarked now x)
   pub sources : Sources now (has src)
 
 pub unmarked-set : (m : Memory) {used src left : Set} → used ≡ setOf (inUse m) → src ≡ setOf (marked m) → left ≡ setOf (λ x. has used x && not (has src x)) → left ≡ setOf (λ x. unmarked m x)
 unmarked-set m a b e = e ∙ set-ext _ _ (λ x l. ap₂ (λ (p q : Bool). p && not q) (in-set _ a x l) (in-set _ b x l))
 
-pub spreading-first : (m : Memory) {src left : Set} → src ≡ setOf (marked m) → left ≡ setOf (λ x. unmarked m x) → Spreading m 0 left src
-spreading-first m e f =
+-- one that is marked is not left to be marked
+some-marked : (m : Memory) {src : Set} → src ≡ setOf (marked m) → anyB numbers (has src) ≡ true → countB numbers (unmarked m) < numbers
+some-marked m {src} e some = omega (arith, count-more numbers (unmarked m) (λ x. true) (λ x l p. refl) (not-so _ all), count-le numbers (λ x. true))
+  where
+    all : allB numbers (λ x. true ⇒ unmarked m x) ≡ true → ⊥
+    all p =
+        let a = any-at numbers _ some in
+        let u = simp and-eq-true-iff at (all-at numbers _ p (a .0) (a .1)) in
+        true≢false (sym (a .2) ∙ in-set _ e (a .0) (a .1) ∙ not-true _ (u .1))
+
+-- so that no count of rounds exceeds the last number
+pub spreading-first : (m : Memory) {src left : Set} → src ≡ setOf (marked m) → anyB numbers (has src) ≡ true → left ≡ setOf (λ x. unmarked m x) → Spreading m 0 left src
+spreading-first m e some f =
     record {
       now = m;
       more = more-none m;
       counted = sym (zero-add _);
       after = refl;
-      few = omega (arith, count-le numbers (unmarked m));
+      few = omega (arith, some-marked m e some);
       left-is = f;
       sources = sources-ext (in-set _ e) (first-sources m);
     }
@@ -123,7 +134,7 @@ module _ (m : Memory) (h : Sized m) (ws : List ℕ) (t : Table m ws) {k : ℕ} {
     marks : marksSome (s .now) ≡ true
     marks = some-is ∙ some
 
-    pub spreading-below : k < numbers
+    pub spreading-below : k < last
     spreading-below = omega (arith, s .few, round-fewer (s .now) sized marks)
 
     pub spreading-next : {left′ : Set} → left′ ≡ setOf (λ x. has left x && not (has new x)) → Spreading m (k + 1) left′ new

@@ -81,12 +81,12 @@ module _ (m : ℕ) (p : ℕ → Bool) where
       ∙ ap (λ (b : Bool). a || b) (sym (any-ext m _ _ (λ y l. and-or-distrib-right (q y) (r y) (p y)) ∙ any-or m _ _))
 
   -- the lowest one, and then what is left of the word
-  pub some-next : (a : Bool) (w k t : ℕ) → w < 2 ^ 64 → 0 < w → k + 64 ≤ m → t ≡ trailingZeros 64 w
-      → ((a || p (k + t)) || someOf (inWord (bitAnd w (w - 1)) k)) ≡ (a || someOf (inWord w k))
-  some-next a w k t h l b e =
+  pub some-next : (a : Bool) (w k x : ℕ) → w < 2 ^ 64 → 0 < w → x < m → x ≡ k + trailingZeros 64 w
+      → ((a || p x) || someOf (inWord (bitAnd w (w - 1)) k)) ≡ (a || someOf (inWord w k))
+  some-next a w k x h l b e =
       let r = inWord (bitAnd w (w - 1)) k in
-      ap (λ (b : Bool). (a || b) || someOf r) (sym (any-one m p (k + t) (rw e (omega (arith, trailing-lt 64 w h l)))))
-      ∙ some-or a (λ y. eqb y (k + t)) r ∙ ap (λ (b : Bool). a || b) (some-ext (λ y. eqb y (k + t) || r y) (inWord w k) (λ y b. rw e (sym (in-next w k y h l))))
+      ap (λ (b : Bool). (a || b) || someOf r) (sym (any-one m p x b))
+      ∙ some-or a (λ y. eqb y x) r ∙ ap (λ (b : Bool). a || b) (some-ext (λ y. eqb y x || r y) (inWord w k) (λ y b. rw e (sym (in-next w k y h l))))
 
   pub some-end : (a : Bool) (w k : ℕ) → w ≡ 0 → (a || someOf (inWord w k)) ≡ a
   some-end a w k e = ap (λ (b : Bool). a || b) (some-ext (inWord w k) (λ y. false) (λ y l. rw e (in-none k y)) ∙ any-false m) ∙ or-false a
@@ -99,10 +99,10 @@ module _ (n : ℕ) (ws : List ℕ) where
   joined-ext q r x e = some-ext (64 * n) (λ y. cell n ws y x) q r e
 
   -- the row of the lowest one is joined, and then what is left of the word
-  pub joined-next : (a : Bool) (w k t x : ℕ) → w < 2 ^ 64 → 0 < w → k + 64 ≤ 64 * n → t ≡ trailingZeros 64 w
-      → ((a || cell n ws (k + t) x) || joined n ws (inWord (bitAnd w (w - 1)) k) x) ≡ (a || joined n ws (inWord w k) x)
+  pub joined-next : (a : Bool) (w k z x : ℕ) → w < 2 ^ 64 → 0 < w → z < 64 * n → z ≡ k + trailingZeros 64 w
+      → ((a || cell n ws z x) || joined n ws (inWord (bitAnd w (w - 1)) k) x) ≡ (a || joined n ws (inWord w k) x)
   unfolding joined
-  joined-next a w k t x h l b e = some-next (64 * n) (λ y. cell n ws y x) a w k t h l b e
+  joined-next a w k z x h l b e = some-next (64 * n) (λ y. cell n ws y x) a w k z h l b e
 
   pub joined-end : (a : Bool) (w k x : ℕ) → w ≡ 0 → (a || joined n ws (inWord w k) x) ≡ a
   unfolding joined

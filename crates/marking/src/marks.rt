@@ -1,6 +1,7 @@
 // The marks of records.
 use crate::DRIVER;
 use crate::MARKS;
+use crate::sets;
 use crate::sets::Set;
 ghost use mathlib.Core.Path.{_≡_};
 ghost use mathlib.Core.Bool.{_&&_};
@@ -11,17 +12,17 @@ ghost use Rattle.rows.specs.Size.{numbers};
 ghost use Rattle.records.specs.Records.{BytesLent, field, kind};
 ghost use Rattle.model.specs.State.{memory, marked, hasFlow};
 ghost use Rattle.model.specs.Effects.{markWhere, objectOf, effect, mark-outside, mark-thing};
-ghost use Rattle.marking.specs.Sets.{has, inWord};
+ghost use Rattle.marking.specs.Sets.{Within, has, inWord};
 ghost use Rattle.marking.specs.Plain.{Plain};
 
 // The numbers of a word are marked. A mark that is there stays as it is.
-fn mark_word(bytes: &mut [u8], word: u64, first: usize)
+fn mark_word(bytes: &mut [u8], word: u64, first: u8)
     requires { ⌜ BytesLent (now bytes) × (first + 64 ≤ numbers) ⌝ }
-    ensures { λ _. ⌜ ((ws : List ℕ) → memory (now (bytes .exit)) ws ≡ markWhere (inWord word first) (memory (now (bytes .entry)) ws)) ⌝ }
+    ensures { λ _. ⌜ ((ws : List ℕ) → memory (now (bytes .exit)) ws ≡ markWhere (inWord word first) (memory (now (bytes .entry)) ws)) × Within (inWord word first) ⌝ }
 {
     let mut rest = word;
     while rest != 0 {
-        let at = records::RECORD_SIZE * (first + (bits::lowest_one(rest) as usize)) + MARKS;
+        let at = records::RECORD_SIZE * (sets::lowest_number(rest, first) as usize) + MARKS;
         if bytes[at] == 0 {
             bytes[at] = 1;
         }

@@ -4,42 +4,60 @@ use crate::KIND;
 use crate::sets;
 use crate::sets::Set;
 ghost use mathlib.Core.Path.{_≡_};
-ghost use Prim.Native.Nat.{_+_, _*_, _≤_, _<_};
+ghost use mathlib.Core.Bool.{true};
+ghost use Prim.Native.Nat.{_+_, _*_, _/_, _%_, _≤_};
+ghost use lib.ListN.{length};
+ghost use Rattle.bits.specs.All.{anyB};
 ghost use Rattle.rows.specs.Size.{rowSize, numbers, WordsLent};
-ghost use Rattle.records.specs.Records.{BytesLent};
+ghost use Rattle.rows.specs.Rows.{addCell};
+ghost use Rattle.records.specs.Records.{BytesLent, driver, isObject};
 ghost use Rattle.model.specs.State as state;
 ghost use Rattle.model.specs.State.{memory};
-ghost use Rattle.marking.specs.Sets.{has, setOf, inWord, TableLent};
+ghost use Rattle.marking.specs.Sets.{last, Within, has, setOf, inWord, TableLent};
 ghost use Rattle.marking.specs.Rounds.{OwnedRows, Driven, Put, ownRow, roundSet, spreadSets};
 
-// The rows of the drivers' objects: one for each number, and a last one for the drivers themselves.
+// The rows of the drivers' objects, one for each number, and one more for the drivers themselves. That one has no number: it would be past the last.
 const OWNED: usize = rows::ROW_WORDS * (records::RECORDS + 1);
 
-const DRIVERS_LOW: usize = rows::ROW_WORDS * records::RECORDS;
+const DRIVERS: usize = rows::ROW_WORDS * records::RECORDS;
 
-const DRIVERS_HIGH: usize = DRIVERS_LOW + 1;
+// A number is put into the row that begins at the word `start`.
+fn put_into(owned: &mut [u64], start: usize, x: u8)
+    requires { ⌜ (start % rowSize ≡ 0) × (start + rowSize ≤ length (now owned)) × (x ≤ last) ⌝ }
+    ensures { λ _. ⌜ now (owned .exit) ≡ addCell rowSize (now (owned .entry)) (start / rowSize) x ⌝ }
+{
+    let at = start + ((x / 64) as usize);
+    owned[at] = owned[at] | (1u64 << (x % 64));
+}
 
-// An object is put into the row of its driver, and its driver into the last row.
-fn own_row(bytes: &[u8], owned: &mut [u64], x: u16)
-    requires { ⌜ BytesLent (now bytes) × (x < numbers) ⌝ }
+// The driver that the record of x names.
+fn driver_of(bytes: &[u8], x: u8) -> u8
+    requires { ⌜ BytesLent (now bytes) × (x ≤ last) ⌝ }
+    ensures { λ r. ⌜ (r ≡ driver (now (bytes .entry)) x) × (Driven (now (bytes .entry)) → isObject (now (bytes .entry)) x ≡ true → r ≤ last) ⌝ }
+{
+    bytes[records::RECORD_SIZE * (x as usize) + DRIVER]
+}
+
+// An object is put into the row of its driver, and its driver into the drivers' row.
+fn own_row(bytes: &[u8], owned: &mut [u64], x: u8)
+    requires { ⌜ BytesLent (now bytes) × OwnedRows (now owned) × Driven (now bytes) × (x ≤ last) ⌝ }
     ensures { λ _. ⌜ now (owned .exit) ≡ ownRow rowSize (now (bytes .entry)) x (now (owned .entry)) ⌝ }
 {
-    let at = records::RECORD_SIZE * (x as usize);
-    if bytes[at] == records::OBJECT {
-        let driver = bytes[at + DRIVER] as u16;
-        rows::add(owned, driver, x);
-        rows::add(owned, rows::NUMBERS, driver);
+    if bytes[records::RECORD_SIZE * (x as usize) + KIND] == records::OBJECT {
+        let driver = driver_of(bytes, x);
+        put_into(owned, rows::ROW_WORDS * (driver as usize), x);
+        put_into(owned, DRIVERS, driver);
     }
 }
 
 // The same for the numbers of a word.
-fn own_word(bytes: &[u8], owned: &mut [u64], word: u64, first: u16)
-    requires { ⌜ BytesLent (now bytes) × OwnedRows (now owned) × (first + 64 ≤ numbers) × Driven (now bytes) ⌝ }
-    ensures { λ _. ⌜ Put rowSize (now (bytes .entry)) (inWord word first) (now (owned .entry)) (now (owned .exit)) ⌝ }
+fn own_word(bytes: &[u8], owned: &mut [u64], word: u64, first: u8)
+    requires { ⌜ BytesLent (now bytes) × OwnedRows (now owned) × Driven (now bytes) × (first + 64 ≤ numbers) ⌝ }
+    ensures { λ _. ⌜ Put rowSize (now (bytes .entry)) (inWord word first) (now (owned .entry)) (now (owned .exit)) × Within (inWord word first) ⌝ }
 {
     let mut rest = word;
     while rest != 0 {
-        own_row(bytes, owned, first + (bits::lowest_one(rest) as u16));
+        own_row(bytes, owned, sets::lowest_number(rest, first));
         rest = rest & (rest - 1);
     }
 }
@@ -60,8 +78,8 @@ fn round(words: &[u64], owned: &[u64], unmarked: Set, sources: Set) -> Set
 {
     let reached = sets::common(sets::rows_of(words, sources), unmarked);
     let drivers = Set {
-        low: owned[DRIVERS_LOW],
-        high: owned[DRIVERS_HIGH],
+        low: owned[DRIVERS],
+        high: owned[DRIVERS + 1],
     };
     let driving = sets::common(sets::union(sources, reached), drivers);
     let driven = sets::common(sets::rows_of(owned, driving), unmarked);
@@ -76,7 +94,7 @@ pub struct Spread {
 
 // The rounds go on until one marks nothing. What older sources feed or drive is marked by then, so only the things that the last round marked are sources of the next.
 pub fn spread_sets(bytes: &[u8], words: &[u64], marked: Set) -> Spread
-    requires { ⌜ BytesLent (now bytes) × WordsLent (now words) × Driven (now bytes) × (marked ≡ setOf (state.marked (memory (now bytes) (now words)))) ⌝ }
+    requires { ⌜ BytesLent (now bytes) × WordsLent (now words) × Driven (now bytes) × (marked ≡ setOf (state.marked (memory (now bytes) (now words)))) × (anyB numbers (has marked) ≡ true) ⌝ }
     ensures { λ r. ⌜ r ≡ spreadSets (memory (now (bytes .entry)) (now (words .entry))) ⌝ }
 {
     let before = sets::without(sets::with_field(bytes, KIND), marked);

@@ -2,13 +2,14 @@
 ghost use mathlib.Core.Path.{_≡_};
 ghost use mathlib.Core.Bool.{not, _&&_, _||_};
 ghost use Prim.Native.Nat.{_+_, _*_, _≤_, _<_};
+ghost use lib.Count.{trailingZeros};
 ghost use lib.Dec.{eqb};
 ghost use Rattle.bits.specs.Bit.{wordOf};
 ghost use Rattle.bits.specs.BitLaws.{lowWord};
 ghost use Rattle.bits.specs.All.{anyB};
 ghost use Rattle.rows.specs.Size.{rowSize, numbers};
 ghost use Rattle.records.specs.Records.{recordSize, BytesLent, field};
-ghost use Rattle.marking.specs.Sets.{has, setOf, inWord, joined, TableLent};
+ghost use Rattle.marking.specs.Sets.{last, Within, has, setOf, inWord, joined, TableLent};
 
 // Number x is bit x of the low word, or bit x - 64 of the high one.
 pub struct Set {
@@ -17,26 +18,26 @@ pub struct Set {
 }
 
 // Of eight numbers, from the first on: a bit for each whose byte f is not zero. The last is taken first, so that a turn doubles what is there and needs no place.
-fn eight_with(bytes: &[u8], first: usize, f: usize) -> u64
+fn eight_with(bytes: &[u8], first: u8, f: usize) -> u64
     requires { ⌜ BytesLent (now bytes) × (first + 8 ≤ numbers) × (f < recordSize) ⌝ }
     ensures { λ r. ⌜ r ≡ lowWord (λ i. not (eqb (field (now (bytes .entry)) (first + i) f) 0)) 8 ⌝ }
 {
     let mut w: u64 = 0;
-    let mut i: usize = 8;
+    let mut i: u8 = 8;
     while i > 0 {
         i -= 1;
-        w = 2 * w + ((bytes[records::RECORD_SIZE * (first + i) + f] != 0) as u64);
+        w = 2 * w + ((bytes[records::RECORD_SIZE * ((first + i) as usize) + f] != 0) as u64);
     }
     w
 }
 
 // The word of 64 numbers, from the first on: whose byte f is not zero.
-fn word_with(bytes: &[u8], first: usize, f: usize) -> u64
+fn word_with(bytes: &[u8], first: u8, f: usize) -> u64
     requires { ⌜ BytesLent (now bytes) × (first + 64 ≤ numbers) × (f < recordSize) ⌝ }
     ensures { λ r. ⌜ r ≡ wordOf (λ i. not (eqb (field (now (bytes .entry)) (first + i) f) 0)) ⌝ }
 {
     let mut w: u64 = 0;
-    let mut g: usize = 0;
+    let mut g: u8 = 0;
     while g < 8 {
         w = w | (eight_with(bytes, first + 8 * g, f) << (8 * g));
         g += 1;
@@ -88,17 +89,25 @@ pub fn is_empty(a: Set) -> bool
     (a.low == 0) & (a.high == 0)
 }
 
+// The lowest number in a word whose bit 0 stands for `first`.
+pub fn lowest_number(word: u64, first: u8) -> u8
+    requires { ⌜ (0 < word) × (first + 64 ≤ numbers) ⌝ }
+    ensures { λ r. ⌜ (r ≡ first + trailingZeros 64 word) × (r ≤ last) ⌝ }
+{
+    first + (bits::lowest_one(word) as u8)
+}
+
 // Onto a set, the rows of the numbers of a word.
-fn join_word(words: &[u64], word: u64, first: usize, onto: Set) -> Set
+fn join_word(words: &[u64], word: u64, first: u8, onto: Set) -> Set
     requires { ⌜ TableLent (now words) × (first + 64 ≤ numbers) ⌝ }
-    ensures { λ r. ⌜ r ≡ setOf (λ x. has onto x || joined rowSize (now (words .entry)) (inWord word first) x) ⌝ }
+    ensures { λ r. ⌜ (r ≡ setOf (λ x. has onto x || joined rowSize (now (words .entry)) (inWord word first) x)) × Within (inWord word first) ⌝ }
 {
     let mut low = onto.low;
     // The high word is kept as its complement: a compiler puts two words joined alike into one vector register, and each round of a long chain waits longer for that.
     let mut missed = !onto.high;
     let mut rest = word;
     while rest != 0 {
-        let row = rows::ROW_WORDS * (first + (bits::lowest_one(rest) as usize));
+        let row = rows::ROW_WORDS * (lowest_number(rest, first) as usize);
         low = low | words[row];
         missed = missed & !words[row + 1];
         rest = rest & (rest - 1);

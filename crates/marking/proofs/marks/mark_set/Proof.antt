@@ -10,7 +10,7 @@ use Rattle.marking.proofs.marks.mark_set.Tie as tie
 returns : tie.Need-returns
 returns c =
     let a = c .before .before .before .before .before .before .before .before .before .args in
-    λ ws. c .before .before .mark-word2 .ensures ws ∙ ap (markWhere (inWord (a .set .high) 64)) (c .before .before .before .before .before .before .mark-word .ensures ws)
+    λ ws. c .before .before .mark-word2 .ensures .0 ws ∙ ap (markWhere (inWord (a .set .high) 64)) (c .before .before .before .before .before .before .mark-word .ensures .0 ws)
     ∙ where-then _ _ _ _ (search needs) (has-words (a .set) (fits (search needs) (search needs)))
 
 pub mark-set-spec : {M : Type 1} → statement M

@@ -13,8 +13,8 @@ use Rattle.marking.proofs.rounds.own_rows.Tie as tie
 returns : tie.Need-returns
 returns c =
     let a = c .before .before .before .before .before .before .before .before .before .before .args in
-    λ d y l. c .before .before .own-word2 .ensures d y l
-    ∙ ap (λ (b : Bool). b || anyB numbers (λ i. inWord (a .set .high) 64 i && puts rowSize (a .bytes .now) d y i)) (c .before .before .before .before .before .before .own-word .ensures d y l)
+    λ d y l. c .before .before .own-word2 .ensures .0 d y l
+    ∙ ap (λ (b : Bool). b || anyB numbers (λ i. inWord (a .set .high) 64 i && puts rowSize (a .bytes .now) d y i)) (c .before .before .before .before .before .before .own-word .ensures .0 d y l)
     ∙ some-words (puts rowSize (a .bytes .now) d y) (cell rowSize (a .owned .now) d y) (a .set) (fits (search needs) (search needs))
 
 pub own-rows-spec : {M : Type 1} → statement M

@@ -7,13 +7,13 @@ use Prim.Native.Nat.{ℕ, _+_, _-_, _^_, _<_}
 use native.Mathlib.Omega.{arith}
 use lib.Bits.{bitAnd}
 use borrow.Author.Needs.{needs}
-use Rattle.bits.specs.BitLaws.{trailing-lt}
 use Rattle.bits.specs.All.{anyB}
 use Rattle.rows.specs.Size.{rowSize, numbers}
 use Rattle.rows.specs.Rows.{cell}
 use Rattle.marking.specs.Sets.{inWord}
 use Rattle.marking.specs.Rounds.{OwnedRows, puts}
 use Rattle.marking.specs.OwnedLaws.{own-cell}
+use Rattle.marking.specs.SetLaws.{word-within}
 use Rattle.marking.specs.WalkLaws.{some-next, some-end, rest-less}
 use Rattle.marking.proofs.rounds.own_word.Statement.{statement}
 use Rattle.marking.proofs.rounds.own_word.Tie as tie
@@ -32,9 +32,6 @@ abbrev μ-loop : tie.MeasureT-loop
 loop-holds : tie.Need-loop-holds Inv-loop μ-loop
 loop-holds c = (search needs, search needs, λ d y l. refl)
 
-place : (c : tie.After-lowest-one Inv-loop μ-loop) → c .lowest-one .result < 64
-place c = let l = c .before .before .before .loop in rw (c .lowest-one .ensures) (trailing-lt 64 (l .rest) (l .inv .0) (omega arith))
-
 loop-less : tie.Need-loop-less Inv-loop μ-loop
 loop-less c = rest-less _ (omega arith)
 
@@ -44,13 +41,13 @@ loop-again c =
     let f = c .before .before .before in
     let l = f .before .before .before .loop in
     let z = f .before .before .before .before .before .before in
-    let x = z .args .first + f .lowest-one .result in
+    let x = f .lowest-number .result in
     let p : 0 < l .rest = omega arith in (
       omega (arith, rest-less (l .rest) p),
       k .kept .1 .0 ∙ l .inv .1,
       λ d y b. ap (λ (q : Bool). q || anyB numbers (λ i. inWord (bitAnd (l .rest) (l .rest - 1)) (z .args .first) i && puts rowSize (z .args .bytes .now) d y i))
-          (ap (λ (v : List ℕ). cell rowSize v d y) (k .ensures) ∙ own-cell rowSize (z .args .bytes .now) (l .owned) x d y (z .pre .3 x) (l .inv .1) (omega (arith, place f)) b)
-          ∙ some-next numbers (puts rowSize (z .args .bytes .now) d y) (cell rowSize (l .owned) d y) (l .rest) (z .args .first) _ (l .inv .0) p (omega arith) (f .lowest-one .ensures) ∙ l .inv .2 d y b,
+          (ap (λ (v : List ℕ). cell rowSize v d y) (k .ensures) ∙ own-cell rowSize (z .args .bytes .now) (l .owned) x d y (z .pre .2 x) (l .inv .1) (omega (arith, f .lowest-number .ensures .1)) b)
+          ∙ some-next numbers (puts rowSize (z .args .bytes .now) d y) (cell rowSize (l .owned) d y) (l .rest) (z .args .first) x (l .inv .0) p (omega (arith, f .lowest-number .ensures .1)) (f .lowest-number .ensures .0) ∙ l .inv .2 d y b,
     )
 
 same-length : tie.Need-same-length Inv-loop μ-loop
@@ -59,8 +56,10 @@ same-length c = omega arith
 returns : tie.Need-returns Inv-loop μ-loop
 returns c =
     let l = c .before .loop in
-    let a = c .before .before .before .before .args in
-    λ d y b. sym (some-end numbers (puts rowSize (a .bytes .now) d y) (cell rowSize (l .owned) d y) (l .rest) (a .first) (c .loop-test .left)) ∙ l .inv .2 d y b
+    let a = c .before .before .before .before .args in (
+      λ d y b. sym (some-end numbers (puts rowSize (a .bytes .now) d y) (cell rowSize (l .owned) d y) (l .rest) (a .first) (c .loop-test .left)) ∙ l .inv .2 d y b,
+      word-within _ _ (search needs) (search needs),
+    )
 
 pub own-word-spec : {M : Type 1} → statement M
 own-word-spec =
@@ -69,10 +68,8 @@ own-word-spec =
     Inv-loop
     μ-loop
     loop-holds
-    (λ c κs. search needs)
-    (λ c. omega (arith, place c))
-    (λ c. omega (arith, place c))
-    (λ c κs. (search needs, omega (arith, place c)))
+    (λ c κs. (omega arith, search needs))
+    (λ c κs. (search needs, search needs, search needs, c .lowest-number .ensures .1))
     (λ c. omega arith)
     loop-less
     loop-again

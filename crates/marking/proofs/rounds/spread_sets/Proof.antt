@@ -12,7 +12,7 @@ use Rattle.rows.specs.Size.{rowSize, numbers}
 use Rattle.rows.specs.RowLaws.{cell-zeros}
 use Rattle.model.specs.State.{memory, inUse, marked}
 use Rattle.model.specs.SpreadLaws.{unmarked}
-use Rattle.marking.specs.Sets.{has, setOf}
+use Rattle.marking.specs.Sets.{last, has, setOf}
 use Rattle.marking.specs.Rounds.{Table}
 use Rattle.marking.specs.OwnedLaws.{owned-table}
 use Rattle.marking.specs.SpreadingLaws.{Spreading, unmarked-set, spreading-first, spreading-below, spreading-next, spreading-end, sets-none}
@@ -43,12 +43,12 @@ table : (c : tie.After-owned2 Inv-loop μ-loop) → Table (memory (start c .args
 table c = owned-table _ (first (c .before .before .before .before .before)) (replicate (rowSize * (numbers + 1)) 0) _ (cell-zeros rowSize (rowSize * (numbers + 1))) (c .before .own-rows .ensures)
 
 loop-holds : tie.Need-loop-holds Inv-loop μ-loop
-loop-holds c = let a = start c .args in spreading-first (memory (a .bytes .now) (a .words .now)) (start c .pre .3) (first (c .before .before .before .before .before))
+loop-holds c = let a = start c .args in spreading-first (memory (a .bytes .now) (a .words .now)) (start c .pre .3) (start c .pre .4) (first (c .before .before .before .before .before))
 
 some : (c : tie.Else2 Inv-loop μ-loop) → anyB numbers (has (c .before .before .round .result)) ≡ true
 some c = not-false _ (sym (c .before .is-empty2 .ensures) ∙ c .if2 .left)
 
-below : (c : tie.Else2 Inv-loop μ-loop) → c .before .before .before .before .loop .count < numbers
+below : (c : tie.Else2 Inv-loop μ-loop) → c .before .before .before .before .loop .count < last
 below c =
     let d = c .before .before .before .before in
     spreading-below _ (start (d .before) .pre .0) _ (table (d .before)) (d .loop .inv) (c .before .before .round .ensures) (some c)

@@ -74,6 +74,7 @@ eight-with-spec =
     (λ c. omega arith)
     (λ c. omega arith)
     (λ c. omega arith)
+    (λ c. omega arith)
     (λ c. search needs)
     add-w-3
     (λ c. omega arith)

@@ -7,11 +7,10 @@ use native.Mathlib.Omega.{arith}
 use lib.Bits.{bitAnd, and-lt, or-lt}
 use lib.Pow.{ones-sub-lt}
 use borrow.Author.Needs.{needs}
-use Rattle.bits.specs.BitLaws.{trailing-lt}
 use Rattle.bits.specs.WordsLaws.{Fit}
 use Rattle.rows.specs.Size.{rowSize, numbers}
 use Rattle.marking.specs.Sets.{words, has, inWord, joined}
-use Rattle.marking.specs.SetLaws.{pair, turned, fits, set-is, has-join}
+use Rattle.marking.specs.SetLaws.{pair, turned, fits, set-is, word-within, has-join}
 use Rattle.marking.specs.WalkLaws.{joined-next, joined-end, rest-less}
 use Rattle.marking.proofs.sets.join_word.Statement.{statement}
 use Rattle.marking.proofs.sets.join_word.Tie as tie
@@ -27,9 +26,6 @@ abbrev μ-loop : tie.MeasureT-loop
 loop-holds : tie.Need-loop-holds Inv-loop μ-loop
 loop-holds c = (search needs, fits (search needs) (search needs), λ x l. refl)
 
-place : (c : tie.After-lowest-one Inv-loop μ-loop) → c .lowest-one .result < 64
-place c = let l = c .before .before .loop in rw (c .lowest-one .ensures) (trailing-lt 64 (l .rest) (l .inv .0) (omega arith))
-
 loop-less : tie.Need-loop-less Inv-loop μ-loop
 loop-less c = rest-less _ (omega arith)
 
@@ -42,7 +38,7 @@ loop-again c =
       omega (arith, rest-less (l .rest) p),
       fits (or-lt 64 _ _ (l .inv .1 .word 0) (table .word _)) (and-lt 64 _ _ (l .inv .1 .word 1) (ones-sub-lt 64 _)),
       λ x b. ap (λ (q : Bool). q || joined rowSize (a .words .now) (inWord (bitAnd (l .rest) (l .rest - 1)) (a .first)) x) (has-join (a .words .now) table (l .low) (l .missed) _ x (l .inv .1 .word 1) b)
-          ∙ joined-next rowSize (a .words .now) (has (turned (l .low) (l .missed)) x) (l .rest) (a .first) _ x (l .inv .0) p (omega arith) (c .before .before .lowest-one .ensures) ∙ l .inv .2 x b,
+          ∙ joined-next rowSize (a .words .now) (has (turned (l .low) (l .missed)) x) (l .rest) (a .first) _ x (l .inv .0) p (omega (arith, c .before .before .lowest-number .ensures .1)) (c .before .before .lowest-number .ensures .0) ∙ l .inv .2 x b,
     )
 
 returns : tie.Need-returns Inv-loop μ-loop
@@ -50,9 +46,12 @@ returns c =
     let l = c .before .loop in
     let a = c .before .before .before .before .args in
     let e : (2 ^ 64 - 1) - ((2 ^ 64 - 1) - a .onto .high) ≡ a .onto .high = omega arith in
-    set-is _ _ (fits (l .inv .1 .word 0) (ones-sub-lt 64 (l .missed)))
-    (λ x b. sym (joined-end rowSize (a .words .now) (has (turned (l .low) (l .missed)) x) (l .rest) (a .first) x (c .loop-test .left)) ∙ l .inv .2 x b
-    ∙ ap (λ (h : ℕ). has (pair (a .onto .low) h) x || joined rowSize (a .words .now) (inWord (a .word) (a .first)) x) e)
+    (
+      set-is _ _ (fits (l .inv .1 .word 0) (ones-sub-lt 64 (l .missed)))
+          (λ x b. sym (joined-end rowSize (a .words .now) (has (turned (l .low) (l .missed)) x) (l .rest) (a .first) x (c .loop-test .left)) ∙ l .inv .2 x b
+          ∙ ap (λ (h : ℕ). has (pair (a .onto .low) h) x || joined rowSize (a .words .now) (inWord (a .word) (a .first)) x) e),
+      word-within _ _ (search needs) (search needs),
+    )
 
 pub join-word-spec : {M : Type 1} → statement M
 join-word-spec =
@@ -61,15 +60,14 @@ join-word-spec =
     Inv-loop
     μ-loop
     loop-holds
-    (λ c κs. search needs)
-    (λ c. search needs)
-    (λ c. omega (arith, place c))
-    (λ c. omega (arith, place c))
-    (λ c. omega (arith, place c))
-    (λ c. omega (arith, place (c .before)))
-    (λ c. omega (arith, place (c .before)))
-    (λ c. omega (arith, place (c .before)))
-    (λ c. omega (arith, place (c .before .before)))
+    (λ c κs. (omega arith, search needs))
+    (λ c. omega (arith, c .lowest-number .ensures .1))
+    (λ c. omega (arith, c .lowest-number .ensures .1))
+    (λ c. omega (arith, c .lowest-number .ensures .1))
+    (λ c. omega (arith, c .before .lowest-number .ensures .1))
+    (λ c. omega (arith, c .before .lowest-number .ensures .1))
+    (λ c. omega (arith, c .before .lowest-number .ensures .1))
+    (λ c. omega (arith, c .before .before .lowest-number .ensures .1))
     (λ c. omega arith)
     loop-less
     loop-again

@@ -10,8 +10,8 @@ use Rattle.marking.proofs.sets.rows_of.Tie as tie
 returns : tie.Need-returns
 returns c =
     let a = c .before .before .before .args in
-    c .join-word2 .ensures
-    ∙ set-ext _ _ (λ x l. ap (λ (b : Bool). b || joined rowSize (a .words .now) (inWord (a .set .high) 64) x) (in-set _ (c .before .join-word .ensures) x l)
+    c .join-word2 .ensures .0
+    ∙ set-ext _ _ (λ x l. ap (λ (b : Bool). b || joined rowSize (a .words .now) (inWord (a .set .high) 64) x) (in-set _ (c .before .join-word .ensures .0) x l)
     ∙ joined-words (a .words .now) (a .set) (fits (search needs) (search needs)) x l)
 
 pub rows-of-spec : {M : Type 1} → statement M

@@ -1,0 +1,1 @@
+/^static uint8_t spread(/,/^}/s/RECORD \* take(&caught)/(uint8_t)(RECORD * take(\&caught))/

@@ -1,0 +1,1 @@
+/^static uint8_t spread(/,/^}/s/return rounds;/return rounds % 64;/

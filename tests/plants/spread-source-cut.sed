@@ -1,0 +1,1 @@
+/^static uint8_t spread(/,/^}/s/FLOWS, take(&sources)/FLOWS, take(\&sources) % 64/
