@@ -32,7 +32,8 @@ fn tasks(marked: Number) -> State {
 #[track_caller]
 fn must_mark(pair: &mut Pair, state: State, rounds: u8, marked: &[Number]) {
     let was_marked = |n: Number| state.things[usize::from(n)].is_marked();
-    let expected: Vec<Number> = numbers().filter(|n| was_marked(*n) || marked.contains(n)).collect();
+    let expected: Vec<Number> =
+        numbers().filter(|n| was_marked(*n) || marked.contains(n)).collect();
     pair.set_state(state);
     let answer = pair.perform(FLAT, request(code::SPREAD, &[]));
     assert_eq!((answer.verdict, answer.rounds), (0, rounds));
