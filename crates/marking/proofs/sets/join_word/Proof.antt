@@ -45,8 +45,7 @@ returns : tie.Need-returns Inv-loop μ-loop
 returns c =
     let l = c .before .loop in
     let a = c .before .before .before .before .args in
-    let e : (2 ^ 64 - 1) - ((2 ^ 64 - 1) - a .onto .high) ≡ a .onto .high = omega arith in
-    (
+    let e : (2 ^ 64 - 1) - ((2 ^ 64 - 1) - a .onto .high) ≡ a .onto .high = omega arith in (
       set-is _ _ (fits (l .inv .1 .word 0) (ones-sub-lt 64 (l .missed)))
           (λ x b. sym (joined-end rowSize (a .words .now) (has (turned (l .low) (l .missed)) x) (l .rest) (a .first) x (c .loop-test .left)) ∙ l .inv .2 x b
           ∙ ap (λ (h : ℕ). has (pair (a .onto .low) h) x || joined rowSize (a .words .now) (inWord (a .word) (a .first)) x) e),
