@@ -12,7 +12,7 @@ use lib.ListN.{getD}
 use lib.Dec.{leb, eqb}
 use borrow.Author.Tests.{leb-true, leb-false, le-leb, eqb-true, eqb-false, eq-eqb, ne-eqb}
 use Rattle.bits.specs.Bit.{bit, inWords, wordsBy}
-use Rattle.bits.specs.BitLaws.{bit-zero, bit-below, bit-rest, trailing-set, trailing-lt}
+use Rattle.bits.specs.BitLaws.{bit-zero, bit-below, bit-rest, trailing-set}
 use Rattle.bits.specs.WordsLaws.{Fit, in-by}
 use Rattle.bits.specs.All.{anyB}
 use Rattle.bits.specs.AllLaws.{either, both-ways, and-i, and-false, and-true, or-false, any-i, any-at, any-ext, any-or, any-one, any-false}
