@@ -17,11 +17,11 @@ use Rattle.marking.specs.declared.sets.Set.{Set}
 use Rattle.marking.specs.declared.rounds.Spread.{Spread}
 use Rattle.marking.specs.Sets.{has, setOf, joined}
 
--- a row for each number, and one more
+-- a row for each number, and one more for the drivers
 abbrev pub OwnedRows : List ℕ → Type 0
 OwnedRows ws = length ws ≡ rowSize * (numbers + 1)
 
--- an object is put into the row of its driver, and its driver into the last row
+-- an object is put into the row of its driver, and its driver into the drivers' row
 unfoldable pub ownRow : ℕ → List ℕ → ℕ → List ℕ → List ℕ
 ownRow n bs x ws = cond (isObject bs x) (addCell n (addCell n ws (driver bs x) x) (64 * n) (driver bs x)) ws
 
@@ -37,7 +37,7 @@ Put n bs q ws vs = (d y : ℕ) → y < 64 * n → cell n vs d y ≡ (cell n ws d
 abbrev pub Driven : List ℕ → Type 0
 Driven bs = (x : ℕ) → isObject bs x ≡ true → driver bs x < numbers
 
--- of the unmarked things: row d has the objects of d, and whatever drives one is in the last row
+-- of the unmarked things: row d has the objects of d, and whatever drives one is in the drivers' row
 pub record Table (m : Memory) (ws : List ℕ) : Type 0 where
   pub owns : (d x : ℕ) → d < numbers → x < numbers → marked m x ≡ false → cell rowSize ws d x ≡ objectOf m d x
   pub drives : (d x : ℕ) → d < numbers → x < numbers → marked m x ≡ false → objectOf m d x ≡ true → cell rowSize ws numbers d ≡ true

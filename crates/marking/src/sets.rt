@@ -107,9 +107,9 @@ fn join_word(words: &[u64], word: u64, first: u8, onto: Set) -> Set
     let mut missed = !onto.high;
     let mut rest = word;
     while rest != 0 {
-        let row = rows::ROW_WORDS * (lowest_number(rest, first) as usize);
-        low = low | words[row];
-        missed = missed & !words[row + 1];
+        let start = rows::ROW_WORDS * (lowest_number(rest, first) as usize);
+        low = low | words[start];
+        missed = missed & !words[start + 1];
         rest = rest & (rest - 1);
     }
     Set {
