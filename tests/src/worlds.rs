@@ -1,4 +1,4 @@
-//! Random orders and random memory.
+//! Random orders and random memory, and numbers in several orders.
 
 use std::ops::Range;
 
@@ -35,7 +35,7 @@ pub fn order(rng: &mut Rng) -> Order {
 }
 
 /// Numbers rising, falling and mixed.
-pub fn rows(numbers: Range<Number>) -> [Vec<Number>; 3] {
+pub fn in_three_orders(numbers: Range<Number>) -> [Vec<Number>; 3] {
     let rising: Vec<Number> = numbers.collect();
     let falling = rising.iter().rev().copied().collect();
     let mut mixed = rising.clone();

@@ -91,7 +91,7 @@ impl Drawers {
 
 /// All numbers of objects, in three orders.
 fn rows() -> [Vec<Number>; 3] {
-    worlds::rows(1..THINGS as Number)
+    worlds::in_three_orders(1..THINGS as Number)
 }
 
 /// A chain of up to 126 under a root: at no length does its top go into its end, nor

@@ -54,7 +54,7 @@ pub set-pair : (p : ℕ → Bool) {a b : ℕ} → a ≡ wordOf (λ i. p (0 + i))
 unfolding setOf wordsOf wordsBy
 set-pair p e f = ap₂ pair e f
 
--- the numbers of a word are the 64 from its first on
+-- no number of a word exceeds the last, if that word is one of a set's
 pub word-within : (w k : ℕ) → w < 2 ^ 64 → k + 64 ≤ numbers → Within (inWord w k)
 unfolding inWord
 word-within w k h l y e = let p = simp and-eq-true-iff at e in omega (arith, leb-true k y (p .0), bit-below 64 w (y - k) h (p .1))

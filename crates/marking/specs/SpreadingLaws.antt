@@ -86,6 +86,7 @@ pub record Spreading (m : Memory) (k : ℕ) (left src : Set) : Type 0 where
   pub more : MoreMarks m now
   pub counted : rounds numbers m ≡ k + rounds (numbers - k) now
   pub after : afterRounds numbers m ≡ afterRounds (numbers - k) now
+  -- so no count of rounds exceeds the last number
   pub few : k + countB numbers (unmarked now) ≤ last
   pub left-is : left ≡ setOf (λ x. unmarked now x)
   pub sources : Sources now (has src)
@@ -103,7 +104,6 @@ some-marked m {src} e some = omega (arith, count-more numbers (unmarked m) (λ x
         let u = simp and-eq-true-iff at (all-at numbers _ p (a .0) (a .1)) in
         true≢false (sym (a .2) ∙ in-set _ e (a .0) (a .1) ∙ not-true _ (u .1))
 
--- so that no count of rounds exceeds the last number
 pub spreading-first : (m : Memory) {src left : Set} → src ≡ setOf (marked m) → anyB numbers (has src) ≡ true → left ≡ setOf (λ x. unmarked m x) → Spreading m 0 left src
 spreading-first m e some f =
     record {

@@ -5,7 +5,7 @@ use crate::sets;
 use crate::sets::Set;
 ghost use mathlib.Core.Path.{_≡_};
 ghost use mathlib.Core.Bool.{true};
-ghost use Prim.Native.Nat.{_+_, _*_, _/_, _%_, _≤_};
+ghost use Prim.Native.Nat.{_+_, _/_, _%_, _≤_};
 ghost use lib.ListN.{length};
 ghost use Rattle.bits.specs.All.{anyB};
 ghost use Rattle.rows.specs.Size.{rowSize, numbers, WordsLent};
@@ -16,9 +16,10 @@ ghost use Rattle.model.specs.State.{memory};
 ghost use Rattle.marking.specs.Sets.{last, Within, has, setOf, inWord, TableLent};
 ghost use Rattle.marking.specs.Rounds.{OwnedRows, Driven, Put, ownRow, roundSet, spreadSets};
 
-// The rows of the drivers' objects, one for each number, and one more for the drivers themselves. That one has no number: it would be past the last.
+// The words of the rows of the drivers' objects, one row for each number, and of one more for the drivers themselves.
 const OWNED: usize = rows::ROW_WORDS * (records::RECORDS + 1);
 
+// Where the drivers' row begins. It has no number: that would be past the last.
 const DRIVERS: usize = rows::ROW_WORDS * records::RECORDS;
 
 // A number is put into the row that begins at the word `start`.
