@@ -39,7 +39,7 @@ pub fn in_three_orders(numbers: Range<Number>) -> [Vec<Number>; 3] {
     let rising: Vec<Number> = numbers.collect();
     let falling = rising.iter().rev().copied().collect();
     let mut mixed = rising.clone();
-    Rng::new(seed("rows")).shuffle(&mut mixed);
+    Rng::new(seed("in_three_orders")).shuffle(&mut mixed);
     [rising, falling, mixed]
 }
 

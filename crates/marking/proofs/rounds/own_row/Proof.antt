@@ -3,6 +3,7 @@ use Prim.Native.Nat.{_*_, _/_, _≤_}
 use native.Mathlib.Omega.{arith}
 use borrow.Author.Needs.{needs}
 use borrow.Author.Tests.{eq-eqb, ne-eqb}
+use Rattle.rows.specs.Size.{rowSize}
 use Rattle.records.specs.Records.{field, isObject}
 use Rattle.marking.specs.Sets.{last}
 use Rattle.marking.specs.Rounds.{ownRow}
@@ -26,7 +27,7 @@ unfolding ownRow isObject field
 returns c =
     let d = c .before .before .before .before .before .before in
     let f = d .before .before in
-    let e : 2 * f .driver-of .result / 2 ≡ f .driver-of .result = omega arith in
+    let e : rowSize * f .driver-of .result / rowSize ≡ f .driver-of .result = omega arith in
     rw (eq-eqb _ 2 (f .before .if1 .taken)) (c .before .before .put-into2 .ensures ∙ rw (d .put-into .ensures, e, f .driver-of .ensures .0))
 
 returns-2 : tie.Need-returns-2
