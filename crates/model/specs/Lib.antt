@@ -8,6 +8,7 @@ pub mod Events
 pub mod Spread
 pub mod Monitor
 pub mod Load
+pub mod Tallies
 pub mod WalkLaws
 pub mod InsideLaws
 pub mod MarkLaws

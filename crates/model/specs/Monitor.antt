@@ -1,23 +1,22 @@
--- The whole call: lengths, soundness and order first, then the event; the tally; and the report.
+-- The call: lengths, soundness and order first, then the event; and the report.
 -- Assumes nothing.
 use mathlib.Core.Bool.{Bool, cond, _&&_}
 use mathlib.Core.List.{List, [], _∷_}
 use Prim.Native.Nat.{ℕ, zero, suc, _+_, _-_}
 use lib.Count.{ones}
-use lib.Dec.{ltb, eqb}
+use lib.Dec.{ltb}
 use lib.ListN.{replicate}
 use Rattle.bits.specs.Bit.{inWords, wordsOf}
 use Rattle.rows.specs.Size.{Size, present, rowSizeOf, numbersOf, lentWords}
 use Rattle.levels.specs.declared.Order.{Order}
 use Rattle.levels.specs.Order.{orderPasses}
 use Rattle.records.specs.Records.{lentBytes, setRecord, soundOf}
-use Rattle.model.specs.Verdicts.{granted, slipped, row-state, row-order}
+use Rattle.model.specs.Verdicts.{granted, row-state, row-order}
 use Rattle.model.specs.State.{MemoryOf, lengthsFit, marked}
 use Rattle.model.specs.Events.{OutcomeOf, outcome, read, write, execute, create, createRoot, move, delete, callTask, invoke, pass, post, find, mark, step}
 use Rattle.model.specs.Spread.{spread}
 use Rattle.model.specs.declared.Call.{Call}
 use Rattle.model.specs.declared.Call.the-variants.{Start, Read, Write, Execute, Create, CreateRoot, Move, Delete, CallTask, Invoke, Pass, Post, Find, Mark, Step, Spread}
-use Rattle.model.specs.declared.Tally.{Tally}
 use Rattle.model.specs.declared.Report.{Report}
 
 -- ---- calls on a memory of either size
@@ -70,24 +69,6 @@ module _ {size : Size} where
   perform o m (Mark e) = fitted o m (outcome m (mark o m e))
   perform o m (Step x) = fitted o m (outcome m (step o m x))
   perform o m Spread = fitted o m (spread m)
-
--- ---- the tally
-
--- where a count stops
-abbrev pub mostCounted : ℕ
-mostCounted = 4294967295
-
-unfoldable pub oneMore : ℕ → ℕ
-oneMore n = cond (ltb n mostCounted) (n + 1) n
-
--- each call but the report raises one of the counts by one
-unfoldable pub raised : Tally → ℕ → Tally
-raised t v =
-    cond (eqb v granted)
-    (record { granted = oneMore (t .granted); slipped = t .slipped; refused = t .refused })
-    (cond (eqb v slipped)
-    (record { granted = t .granted; slipped = oneMore (t .slipped); refused = t .refused })
-    (record { granted = t .granted; slipped = t .slipped; refused = oneMore (t .refused) }))
 
 -- ---- the report
 
