@@ -1,16 +1,22 @@
-// The monitor's public face: every call with its tally, the report, and what C and Rust link.
+// The monitor's public face: every call and load with its list of tallies, the report, and what C and Rust link.
 ghost use mathlib.Core.Path.{_≡_};
 ghost use mathlib.Core.Bool.{true, _&&_};
+ghost use lib.Dec.{eqb};
+ghost use Rattle.rows.specs.Size.{numbers};
 ghost use Rattle.records.specs.Records.{sound};
 ghost use Rattle.levels.specs.Order.{orderPasses};
+ghost use Rattle.model.specs.Verdicts.{granted, row-state};
 ghost use Rattle.model.specs.State.{memory, lengthsFit};
 ghost use Rattle.model.specs.Ready.{Ready};
 ghost use Rattle.model.specs.Events.{left};
 ghost use Rattle.model.specs.Monitor as model;
-ghost use Rattle.model.specs.Monitor.{raised, oneMore, started, nextMarked};
+ghost use Rattle.model.specs.Monitor.{refusedUnless, started, nextMarked};
+ghost use Rattle.model.specs.Tallies.{isStart, countedOn, tallied, performed, loaded};
 ghost use Rattle.model.specs.Load as loads;
 ghost use Rattle.model.specs.Load.{inTurn, whole, layoutChecked};
 ghost use Rattle.loading.specs.Calls.{callsIn};
+ghost use Rattle.tallies.specs.Entries.{Fitting, Enters};
+ghost use Rattle.tallies.specs.Counts.{recordsIn};
 ghost use Rattle.monitor.specs.Request.{callOf};
 use layout::Text;
 use levels::Order;
@@ -19,13 +25,7 @@ use model::Call;
 use model::Checked;
 use model::Report;
 use model::Tally;
-
-// What a call answers, and the tally with it counted.
-#[repr(C)]
-pub struct Counted {
-    pub answer: Answer,
-    pub tally: Tally,
-}
+use tallies::Entry;
 
 // A call as a C caller writes it: its code, and its numbers in the call's order.
 #[repr(C)]
@@ -36,44 +36,6 @@ pub struct Request {
     pub c: u16,
     pub d: u16,
     pub e: u16,
-}
-
-// One more, stopping at the most that 32 bits hold.
-fn one_more(n: u32) -> u32
-    ensures { λ r. ⌜ r ≡ oneMore n ⌝ }
-{
-    if n < 4294967295 { n + 1 } else { n }
-}
-
-// The tally with a verdict counted.
-fn count(tally: Tally, verdict: u8) -> Tally
-    ensures { λ r. ⌜ r ≡ raised tally verdict ⌝ }
-{
-    let granted = tally.granted;
-    let slipped = tally.slipped;
-    let refused = tally.refused;
-    if verdict == model::GRANTED {
-        let more = one_more(granted);
-        return Tally {
-            granted: more,
-            slipped,
-            refused,
-        };
-    }
-    if verdict == model::SLIPPED {
-        let more = one_more(slipped);
-        return Tally {
-            granted,
-            slipped: more,
-            refused,
-        };
-    }
-    let more = one_more(refused);
-    Tally {
-        granted,
-        slipped,
-        refused: more,
-    }
 }
 
 // The call that a request is.
@@ -157,6 +119,25 @@ fn plain(verdict: u8) -> Answer
     Answer { verdict, rounds: 0 }
 }
 
+// What no task asks for counts on record 0; if it is granted it begins the list anew.
+fn on_core(verdict: u8) -> Entry
+    ensures { λ r. ⌜ (r .answer .verdict ≡ verdict) × (r .answer .rounds ≡ 0) × Enters r 0 (eqb verdict granted) × Fitting r ⌝ }
+{
+    let answer = plain(verdict);
+    if verdict == model::GRANTED {
+        return Entry {
+            answer,
+            record: 0,
+            zeroed: rows::NUMBERS,
+        };
+    }
+    Entry {
+        answer,
+        record: 0,
+        zeroed: 0,
+    }
+}
+
 // A call that has passed rows 2 and 3; a start tests for itself.
 fn event(bytes: &mut [u8], words: &mut [u64], order: Order, call: Call) -> Answer
     requires { ⌜ Ready order (now bytes) (now words) ⌝ }
@@ -202,73 +183,84 @@ fn event(bytes: &mut [u8], words: &mut [u64], order: Order, call: Call) -> Answe
     }
 }
 
-// Every call, without its tally.
-fn answer(bytes: &mut [u8], words: &mut [u64], order: Order, call: Call) -> Answer
-    ensures { λ r. ⌜ left (r .verdict) (r .rounds) (now (bytes .exit)) (now (words .exit)) ≡ model.perform order (memory (now (bytes .entry)) (now (words .entry))) call ⌝ }
+// A call that is lent a list of the right length.
+fn settle(bytes: &mut [u8], words: &mut [u64], order: Order, call: Call) -> Entry
+    ensures { λ r. ⌜ (left (r .answer .verdict) (r .answer .rounds) (now (bytes .exit)) (now (words .exit)) ≡ model.perform order (memory (now (bytes .entry)) (now (words .entry))) call)
+        × Enters r (countedOn (memory (now (bytes .entry)) (now (words .entry))) call (r .answer .verdict)) (isStart call && eqb (r .answer .verdict) granted) × Fitting r ⌝ }
 {
     if let Call::Start = call {
-        return plain(start(bytes, words, order));
+        return on_core(start(bytes, words, order));
     }
     if !fits(bytes, words, order) {
-        return plain(model::STATE);
+        return on_core(model::STATE);
     }
     if !levels::order_passes(order) {
-        return plain(model::ORDER);
+        return on_core(model::ORDER);
     }
-    event(bytes, words, order, call)
+    let record = tallies::asker(bytes, call);
+    Entry {
+        answer: event(bytes, words, order, call),
+        record,
+        zeroed: 0,
+    }
 }
 
-// A whole call, with the tally by value.
+// A call, by all but its list: of that the length alone matters.
+fn judge(bytes: &mut [u8], words: &mut [u64], lent: usize, order: Order, call: Call) -> Entry
+    ensures { λ r. ⌜ (left (r .answer .verdict) (r .answer .rounds) (now (bytes .exit)) (now (words .exit)) ≡ refusedUnless (eqb lent numbers) row-state (memory (now (bytes .entry)) (now (words .entry))) (model.perform order (memory (now (bytes .entry)) (now (words .entry))) call))
+        × Enters r (countedOn (memory (now (bytes .entry)) (now (words .entry))) call (r .answer .verdict)) (isStart call && eqb (r .answer .verdict) granted) × Fitting r ⌝ }
+{
+    if lent != records::RECORDS {
+        return on_core(model::STATE);
+    }
+    settle(bytes, words, order, call)
+}
+
+// A whole call by a program in Rattle, which lends the list as plain numbers.
 pub fn perform(
     bytes: &mut [u8],
     words: &mut [u64],
-    tally: Tally,
+    counts: &mut [u32],
     order: Order,
     call: Call,
-) -> Counted
-    ensures { λ r. ⌜ (left (r .answer .verdict) (r .answer .rounds) (now (bytes .exit)) (now (words .exit)) ≡ model.perform order (memory (now (bytes .entry)) (now (words .entry))) call)
-        × (r .tally ≡ raised tally (model.perform order (memory (now (bytes .entry)) (now (words .entry))) call .verdict)) ⌝ }
+) -> Answer
+    ensures { λ r. ⌜ tallied (left (r .verdict) (r .rounds) (now (bytes .exit)) (now (words .exit))) (recordsIn (now (counts .exit))) ≡ performed order (memory (now (bytes .entry)) (now (words .entry))) (recordsIn (now (counts .entry))) call ⌝ }
 {
-    let given = answer(bytes, words, order, call);
-    let verdict = given.verdict;
-    let next = count(tally, verdict);
-    Counted {
-        answer: given,
-        tally: next,
-    }
+    let lent = tallies::records_in(counts);
+    let entry = judge(bytes, words, lent, order, call);
+    tallies::enter_counts(counts, entry);
+    entry.answer
 }
 
 // The same for a request.
-pub fn perform_request(
+fn judge_request(
     bytes: &mut [u8],
     words: &mut [u64],
-    tally: Tally,
+    lent: usize,
     order: Order,
     request: Request,
-) -> Counted
-    ensures { λ r. ⌜ (left (r .answer .verdict) (r .answer .rounds) (now (bytes .exit)) (now (words .exit)) ≡ model.perform order (memory (now (bytes .entry)) (now (words .entry))) (callOf request))
-        × (r .tally ≡ raised tally (model.perform order (memory (now (bytes .entry)) (now (words .entry))) (callOf request) .verdict)) ⌝ }
+) -> Entry
+    ensures { λ r. ⌜ (left (r .answer .verdict) (r .answer .rounds) (now (bytes .exit)) (now (words .exit)) ≡ refusedUnless (eqb lent numbers) row-state (memory (now (bytes .entry)) (now (words .entry))) (model.perform order (memory (now (bytes .entry)) (now (words .entry))) (callOf request)))
+        × Enters r (countedOn (memory (now (bytes .entry)) (now (words .entry))) (callOf request) (r .answer .verdict)) (isStart (callOf request) && eqb (r .answer .verdict) granted) × Fitting r ⌝ }
 {
     let call = call_of(request);
-    perform(bytes, words, tally, order, call)
+    judge(bytes, words, lent, order, call)
 }
 
-// The thin function over the lent tally, and what C and Rust call.
+// A whole call over the lent list, as C and Rust call it.
 #[no_mangle]
 pub extern "C" fn tupehiwo_perform(
     bytes: &mut [u8],
     words: &mut [u64],
-    tally: &mut Tally,
+    tallies: &mut [Tally],
     order: Order,
     request: Request,
 ) -> Answer
-    ensures { λ r. ⌜ (left (r .verdict) (r .rounds) (now (bytes .exit)) (now (words .exit)) ≡ model.perform order (memory (now (bytes .entry)) (now (words .entry))) (callOf request))
-        × (now (tally .exit) ≡ raised (now (tally .entry)) (model.perform order (memory (now (bytes .entry)) (now (words .entry))) (callOf request) .verdict)) ⌝ }
+    ensures { λ r. ⌜ tallied (left (r .verdict) (r .rounds) (now (bytes .exit)) (now (words .exit))) (now (tallies .exit)) ≡ performed order (memory (now (bytes .entry)) (now (words .entry))) (now (tallies .entry)) (callOf request) ⌝ }
 {
-    let before = *tally;
-    let done = perform_request(bytes, words, before, order, request);
-    *tally = done.tally;
-    done.answer
+    let entry = judge_request(bytes, words, tallies.len(), order, request);
+    tallies::enter(tallies, entry);
+    entry.answer
 }
 
 // The calls of a layout's text on the state of a start, which is left again if one of them is refused.
@@ -298,40 +290,37 @@ fn load(bytes: &mut [u8], words: &mut [u64], order: Order, text: &[u8]) -> u8
     }
 }
 
-// A whole load, with the tally by value: it counts once.
-pub fn load_counted(
+// A load, by all but its list.
+fn judge_load(
     bytes: &mut [u8],
     words: &mut [u64],
-    tally: Tally,
+    lent: usize,
     order: Order,
     text: &[u8],
-) -> Counted
-    ensures { λ r. ⌜ (left (r .answer .verdict) (r .answer .rounds) (now (bytes .exit)) (now (words .exit)) ≡ loads.load order (memory (now (bytes .entry)) (now (words .entry))) (now (text .entry)))
-        × (r .tally ≡ raised tally (loads.load order (memory (now (bytes .entry)) (now (words .entry))) (now (text .entry)) .verdict)) ⌝ }
+) -> Entry
+    ensures { λ r. ⌜ (left (r .answer .verdict) (r .answer .rounds) (now (bytes .exit)) (now (words .exit)) ≡ refusedUnless (eqb lent numbers) row-state (memory (now (bytes .entry)) (now (words .entry))) (loads.load order (memory (now (bytes .entry)) (now (words .entry))) (now (text .entry))))
+        × Enters r 0 (eqb (r .answer .verdict) granted) × Fitting r ⌝ }
 {
-    let verdict = load(bytes, words, order, text);
-    Counted {
-        answer: plain(verdict),
-        tally: count(tally, verdict),
+    if lent != records::RECORDS {
+        return on_core(model::STATE);
     }
+    on_core(load(bytes, words, order, text))
 }
 
-// A load over the lent tally: as C and Rust call it.
+// A whole load over the lent list, as C and Rust call it.
 #[no_mangle]
 pub extern "C" fn tupehiwo_load(
     bytes: &mut [u8],
     words: &mut [u64],
-    tally: &mut Tally,
+    tallies: &mut [Tally],
     order: Order,
     text: &[u8],
 ) -> Answer
-    ensures { λ r. ⌜ (left (r .verdict) (r .rounds) (now (bytes .exit)) (now (words .exit)) ≡ loads.load order (memory (now (bytes .entry)) (now (words .entry))) (now (text .entry)))
-        × (now (tally .exit) ≡ raised (now (tally .entry)) (loads.load order (memory (now (bytes .entry)) (now (words .entry))) (now (text .entry)) .verdict)) ⌝ }
+    ensures { λ r. ⌜ tallied (left (r .verdict) (r .rounds) (now (bytes .exit)) (now (words .exit))) (now (tallies .exit)) ≡ loaded order (memory (now (bytes .entry)) (now (words .entry))) (now (tallies .entry)) (now (text .entry)) ⌝ }
 {
-    let before = *tally;
-    let done = load_counted(bytes, words, before, order, text);
-    *tally = done.tally;
-    done.answer
+    let entry = judge_load(bytes, words, tallies.len(), order, text);
+    tallies::enter(tallies, entry);
+    entry.answer
 }
 
 // 0, 14 or 15 as a load past row 3 settles before any call, with the place of the fault, or the text's length: as C and Rust call it.

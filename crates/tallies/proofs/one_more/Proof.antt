@@ -1,8 +1,8 @@
 use borrow.Author.Needs.{needs}
 use borrow.Author.Tests.{lt-ltb, le-ltb}
-use Rattle.model.specs.Monitor.{oneMore}
-use Rattle.monitor.proofs.one_more.Statement.{statement}
-use Rattle.monitor.proofs.one_more.Tie as tie
+use Rattle.model.specs.Tallies.{oneMore}
+use Rattle.tallies.proofs.one_more.Statement.{statement}
+use Rattle.tallies.proofs.one_more.Tie as tie
 
 add-result : tie.Need-add-result
 add-result c = search needs

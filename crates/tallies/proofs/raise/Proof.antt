@@ -1,8 +1,8 @@
 use borrow.Author.Needs.{needs}
 use borrow.Author.Tests.{eq-eqb, ne-eqb}
-use Rattle.model.specs.Monitor.{raised}
-use Rattle.monitor.proofs.count.Statement.{statement}
-use Rattle.monitor.proofs.count.Tie as tie
+use Rattle.model.specs.Tallies.{raised}
+use Rattle.tallies.proofs.raise.Statement.{statement}
+use Rattle.tallies.proofs.raise.Tie as tie
 
 returns : tie.Need-returns
 unfolding raised
@@ -16,5 +16,5 @@ returns-3 : tie.Need-returns-3
 unfolding raised
 returns-3 c = simp (ne-eqb _ _ (c .before .before .if1 .left), ne-eqb _ _ (c .before .if2 .left), c .one-more3 .ensures)
 
-pub count-spec : {M : Type 1} → statement M
-count-spec = tie.close (tie.spec (λ c κs. search needs) returns (λ c κs. search needs) returns-2 (λ c κs. search needs) returns-3)
+pub raise-spec : {M : Type 1} → statement M
+raise-spec = tie.close (tie.spec (λ c κs. search needs) returns (λ c κs. search needs) returns-2 (λ c κs. search needs) returns-3)

@@ -1,0 +1,11 @@
+-- A list of tallies as plain numbers, three to a record: granted, slipped, refused. What is left over is not looked at.
+-- Assumes nothing.
+use mathlib.Core.List.{List, [], _∷_}
+use Prim.Native.Nat.{ℕ}
+use Rattle.model.specs.declared.Tally.{Tally}
+
+unfoldable pub recordsIn : List ℕ → List Tally
+recordsIn [] = []
+recordsIn (g ∷ []) = []
+recordsIn (g ∷ s ∷ []) = []
+recordsIn (g ∷ s ∷ r ∷ ns) = record { granted = g; slipped = s; refused = r } ∷ recordsIn ns

@@ -1,0 +1,173 @@
+// The lists of tallies: who asks, and how a call is entered in the list that it is lent.
+ghost use mathlib.Core.Path.{_≡_};
+ghost use mathlib.Core.List.{List, _++_};
+ghost use Prim.Native.Nat.{ℕ, _<_, _≤_};
+ghost use lib.ListN.{length, replicate, drop};
+ghost use Rattle.rows.specs.Size.{numbers};
+ghost use Rattle.records.specs.Records.{BytesLent};
+ghost use Rattle.model.specs.State.{memory};
+ghost use Rattle.model.specs.Tallies as model;
+ghost use Rattle.model.specs.Tallies.{oneMore, raised, raisedAt, ifTask};
+ghost use Rattle.tallies.specs.Entries.{Fitting, enteredAs};
+ghost use Rattle.tallies.specs.Counts.{recordsIn};
+use model::Answer;
+use model::Call;
+use model::Tally;
+
+// The counts of a record, where a list is lent as plain numbers.
+const COUNTS: usize = 3;
+
+// What a call answers, the record that counts it, and how many records from the first on are zeroed before: all of them, or none.
+pub struct Entry {
+    pub answer: Answer,
+    pub record: u16,
+    pub zeroed: u16,
+}
+
+// One more, stopping at the most that 32 bits hold.
+fn one_more(n: u32) -> u32
+    ensures { λ r. ⌜ r ≡ oneMore n ⌝ }
+{
+    if n < 4294967295 { n + 1 } else { n }
+}
+
+// The record with a verdict counted.
+fn raise(tally: Tally, verdict: u8) -> Tally
+    ensures { λ r. ⌜ r ≡ raised tally verdict ⌝ }
+{
+    let granted = tally.granted;
+    let slipped = tally.slipped;
+    let refused = tally.refused;
+    if verdict == model::GRANTED {
+        let more = one_more(granted);
+        return Tally {
+            granted: more,
+            slipped,
+            refused,
+        };
+    }
+    if verdict == model::SLIPPED {
+        let more = one_more(slipped);
+        return Tally {
+            granted,
+            slipped: more,
+            refused,
+        };
+    }
+    let more = one_more(refused);
+    Tally {
+        granted,
+        slipped,
+        refused: more,
+    }
+}
+
+// The number, if it names a task; otherwise 0.
+fn if_task(bytes: &[u8], x: u16) -> u16
+    requires { ⌜ BytesLent (now bytes) ⌝ }
+    ensures { λ r. ⌜ ((ws : List ℕ) → r ≡ ifTask (memory (now (bytes .entry)) ws) x) × (r < numbers) ⌝ }
+{
+    if records::is_task(bytes, x) { x } else { 0 }
+}
+
+// Whose record a call counts on that has passed rows 2 and 3: that of the task that asks.
+pub fn asker(bytes: &[u8], call: Call) -> u16
+    requires { ⌜ BytesLent (now bytes) ⌝ }
+    ensures { λ r. ⌜ ((ws : List ℕ) → r ≡ model.asker (memory (now (bytes .entry)) ws) call) × (r < numbers) ⌝ }
+{
+    match call {
+        Call::Start => 0,
+        Call::Read(e, _, _) => if_task(bytes, e),
+        Call::Write(e, _, _) => if_task(bytes, e),
+        Call::Execute(c, _, _, _, _) => if_task(bytes, c),
+        Call::Create(c, _, _, _, _) => if_task(bytes, c),
+        Call::CreateRoot(c, _, _, _) => if_task(bytes, c),
+        Call::Move(e, _, _, _, _) => if_task(bytes, e),
+        Call::Delete(e, _, _, _) => if_task(bytes, e),
+        Call::CallTask(a, _) => if_task(bytes, a),
+        Call::Invoke(a, _) => if_task(bytes, a),
+        Call::Pass(z, _, _) => if_task(bytes, z),
+        Call::Post(x, _, _) => if_task(bytes, x),
+        Call::Find(x, _, _) => if_task(bytes, x),
+        Call::Mark(_) => 0,
+        Call::Step(_) => 0,
+        Call::Spread => 0,
+    }
+}
+
+// Enters a call in its list: what begins anew zeroes it first, then one record is raised. A list of another length stays as it is.
+pub fn enter(tallies: &mut [Tally], entry: Entry)
+    requires { ⌜ Fitting entry ⌝ }
+    ensures { λ _. ⌜ now (tallies .exit) ≡ enteredAs entry (now (tallies .entry)) ⌝ }
+{
+    if tallies.len() != records::RECORDS {
+        return;
+    }
+    let zeroed = entry.zeroed as usize;
+    let mut i = 0;
+    while i < zeroed {
+        tallies[i] = Tally {
+            granted: 0,
+            slipped: 0,
+            refused: 0,
+        };
+        i += 1;
+    }
+    let record = entry.record as usize;
+    let before = tallies[record];
+    let after = raise(before, entry.answer.verdict);
+    tallies[record] = after;
+}
+
+// How many records a list of plain numbers holds, three numbers to a record.
+pub fn records_in(counts: &[u32]) -> usize
+    ensures { λ r. ⌜ r ≡ length (recordsIn (now (counts .entry))) ⌝ }
+{
+    counts.len() / COUNTS
+}
+
+// The first numbers of a list zeroed.
+fn zero_counts(counts: &mut [u32], n: usize)
+    requires { ⌜ n ≤ length (now counts) ⌝ }
+    ensures { λ _. ⌜ now (counts .exit) ≡ replicate n 0 ++ drop n (now (counts .entry)) ⌝ }
+{
+    let mut i = 0;
+    while i < n {
+        counts[i] = 0;
+        i += 1;
+    }
+}
+
+// One record of such a list raised.
+fn raise_counts(counts: &mut [u32], record: usize, verdict: u8)
+    requires { ⌜ record < length (recordsIn (now counts)) ⌝ }
+    ensures { λ _. ⌜ recordsIn (now (counts .exit)) ≡ raisedAt record verdict (recordsIn (now (counts .entry))) ⌝ }
+{
+    let i = COUNTS * record;
+    let granted = counts[i];
+    let slipped = counts[i + 1];
+    let refused = counts[i + 2];
+    let before = Tally {
+        granted,
+        slipped,
+        refused,
+    };
+    let after = raise(before, verdict);
+    counts[i] = after.granted;
+    counts[i + 1] = after.slipped;
+    counts[i + 2] = after.refused;
+}
+
+// Enters a call in a list of plain numbers, as programs in Rattle lend it: what goes through a reference to structs is proved by hand.
+pub fn enter_counts(counts: &mut [u32], entry: Entry)
+    requires { ⌜ Fitting entry ⌝ }
+    ensures { λ _. ⌜ recordsIn (now (counts .exit)) ≡ enteredAs entry (recordsIn (now (counts .entry))) ⌝ }
+{
+    if records_in(counts) != records::RECORDS {
+        return;
+    }
+    let zeroed = entry.zeroed as usize;
+    zero_counts(counts, COUNTS * zeroed);
+    let record = entry.record as usize;
+    raise_counts(counts, record, entry.answer.verdict);
+}
