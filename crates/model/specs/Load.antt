@@ -57,7 +57,7 @@ module _ {size : Size} where
   unfoldable pub load : Order → MemoryOf size → List ℕ → OutcomeOf size
   load o m t = refusedUnless (lengthsFit m) row-state m (refusedUnless (orderPasses o) row-order m (laidOut o (settled t)))
 
--- the verdict of a load that gets past rows 2 and 3: it makes the state of a start, refused or not. No call of a layout gives 2 or 3, so the verdict tells
+-- the verdict is neither 2 nor 3. A load of such a verdict has got past these rows and made the state of a start, refused or not: no call of a layout gives 2 or 3
 unfoldable pub pastOrder : ℕ → Bool
 pastOrder v = not (eqb v row-state || eqb v row-order)
 

@@ -71,11 +71,11 @@ isStart (Step x) = false
 isStart Spread = false
 
 module _ {size : Size} where
-  -- the number, if it names a task; otherwise 0
+  -- the number, if it names a task; for a free number, an object's and one past the last 0
   unfoldable pub ifTask : MemoryOf size → ℕ → ℕ
   ifTask m x = cond (task m x) x 0
 
-  -- "the task that asks: the first task it names". Start, mark, step and spread count on record 0
+  -- "the task that asks: the first task it names"; "start, load, mark, step and spread count on record 0, and so does a call .. whose first number names no task"
   unfoldable pub asker : MemoryOf size → Call → ℕ
   asker m Start = 0
   asker m (Read e d x) = ifTask m e
@@ -94,7 +94,7 @@ module _ {size : Size} where
   asker m (Step x) = 0
   asker m Spread = 0
 
-  -- "and so does a call refused with 2 or 3"
+  -- the record that a call of the verdict v raises: "and so does a call refused with 2 or 3"
   unfoldable pub countedOn : MemoryOf size → Call → ℕ → ℕ
   countedOn m c v = cond (pastOrder v) (asker m c) 0
 
@@ -113,18 +113,18 @@ abbrev pub tallied : Outcome → List Tally → Tallied
 tallied out ts = record { outcome = out; tallies = ts }
 
 module _ {size : Size} where
-  -- "a list of another length is refused with 2 and stays untouched", as all else does
+  -- "a list of another length is refused with 2 and stays untouched", as bytes and words do
   unfoldable pub withList : MemoryOf size → List Tally → TalliedOf size → TalliedOf size
-  withList m ts done = cond (listFits size ts) done (record { outcome = refusal row-state m; tallies = ts })
+  withList m ts rest = cond (listFits size ts) rest (record { outcome = refusal row-state m; tallies = ts })
 
-  -- counted on record i; what begins anew zeroes the list first
+  -- an outcome, counted on record i; `anew` says that the list is zeroed first
   unfoldable pub counted : Bool → ℕ → List Tally → OutcomeOf size → TalliedOf size
   counted anew i ts out = record { outcome = out; tallies = raisedAt i (out .verdict) (cond anew (zeroed size) ts) }
 
-  -- a granted start begins anew
+  -- a whole call, with its list: "a granted start .. zeroes the list, then counts itself"
   unfoldable pub performed : Order → MemoryOf size → List Tally → Call → TalliedOf size
   performed o m ts c = let out = perform o m c in withList m ts (counted (isStart c && eqb (out .verdict) granted) (countedOn m c (out .verdict)) ts out)
 
-  -- so does a granted load; a load counts on record 0
+  -- a whole load, with its list: a granted one zeroes it too, and each counts on record 0
   unfoldable pub loaded : Order → MemoryOf size → List Tally → List ℕ → TalliedOf size
   loaded o m ts t = let out = load o m t in withList m ts (counted (eqb (out .verdict) granted) 0 ts out)

@@ -1,3 +1,4 @@
 mod Rows
 mod Loads
+mod Entering
 mod Thin

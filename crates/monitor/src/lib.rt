@@ -119,22 +119,14 @@ fn plain(verdict: u8) -> Answer
     Answer { verdict, rounds: 0 }
 }
 
-// What no task asks for counts on record 0; if it is granted it begins the list anew.
-fn on_core(verdict: u8) -> Entry
+// The entry of a start, of a load, and of a call refused with 2 or 3: a granted one zeroes the list.
+fn on_record_0(verdict: u8) -> Entry
     ensures { λ r. ⌜ (r .answer .verdict ≡ verdict) × (r .answer .rounds ≡ 0) × Enters r 0 (eqb verdict granted) × Fitting r ⌝ }
 {
-    let answer = plain(verdict);
-    if verdict == model::GRANTED {
-        return Entry {
-            answer,
-            record: 0,
-            zeroed: rows::NUMBERS,
-        };
-    }
     Entry {
-        answer,
+        answer: plain(verdict),
         record: 0,
-        zeroed: 0,
+        anew: verdict == model::GRANTED,
     }
 }
 
@@ -183,40 +175,40 @@ fn event(bytes: &mut [u8], words: &mut [u64], order: Order, call: Call) -> Answe
     }
 }
 
-// A call that is lent a list of the right length.
-fn settle(bytes: &mut [u8], words: &mut [u64], order: Order, call: Call) -> Entry
+// A call that is lent a list of the right length: done on bytes and words, to be entered afterwards.
+fn carry_out(bytes: &mut [u8], words: &mut [u64], order: Order, call: Call) -> Entry
     ensures { λ r. ⌜ (left (r .answer .verdict) (r .answer .rounds) (now (bytes .exit)) (now (words .exit)) ≡ model.perform order (memory (now (bytes .entry)) (now (words .entry))) call)
         × Enters r (countedOn (memory (now (bytes .entry)) (now (words .entry))) call (r .answer .verdict)) (isStart call && eqb (r .answer .verdict) granted) × Fitting r ⌝ }
 {
     if let Call::Start = call {
-        return on_core(start(bytes, words, order));
+        return on_record_0(start(bytes, words, order));
     }
     if !fits(bytes, words, order) {
-        return on_core(model::STATE);
+        return on_record_0(model::STATE);
     }
     if !levels::order_passes(order) {
-        return on_core(model::ORDER);
+        return on_record_0(model::ORDER);
     }
     let record = tallies::asker(bytes, call);
     Entry {
         answer: event(bytes, words, order, call),
         record,
-        zeroed: 0,
+        anew: false,
     }
 }
 
-// A call, by all but its list: of that the length alone matters.
-fn judge(bytes: &mut [u8], words: &mut [u64], lent: usize, order: Order, call: Call) -> Entry
+// The same for a list of so many records: another length is refused with 2.
+fn call_lent(bytes: &mut [u8], words: &mut [u64], lent: usize, order: Order, call: Call) -> Entry
     ensures { λ r. ⌜ (left (r .answer .verdict) (r .answer .rounds) (now (bytes .exit)) (now (words .exit)) ≡ refusedUnless (eqb lent numbers) row-state (memory (now (bytes .entry)) (now (words .entry))) (model.perform order (memory (now (bytes .entry)) (now (words .entry))) call))
         × Enters r (countedOn (memory (now (bytes .entry)) (now (words .entry))) call (r .answer .verdict)) (isStart call && eqb (r .answer .verdict) granted) × Fitting r ⌝ }
 {
     if lent != records::RECORDS {
-        return on_core(model::STATE);
+        return on_record_0(model::STATE);
     }
-    settle(bytes, words, order, call)
+    carry_out(bytes, words, order, call)
 }
 
-// A whole call by a program in Rattle, which lends the list as plain numbers.
+// A whole call, as programs in Rattle make it: the list is lent as plain numbers.
 pub fn perform(
     bytes: &mut [u8],
     words: &mut [u64],
@@ -227,13 +219,13 @@ pub fn perform(
     ensures { λ r. ⌜ tallied (left (r .verdict) (r .rounds) (now (bytes .exit)) (now (words .exit))) (recordsIn (now (counts .exit))) ≡ performed order (memory (now (bytes .entry)) (now (words .entry))) (recordsIn (now (counts .entry))) call ⌝ }
 {
     let lent = tallies::records_in(counts);
-    let entry = judge(bytes, words, lent, order, call);
+    let entry = call_lent(bytes, words, lent, order, call);
     tallies::enter_counts(counts, entry);
     entry.answer
 }
 
 // The same for a request.
-fn judge_request(
+fn request_lent(
     bytes: &mut [u8],
     words: &mut [u64],
     lent: usize,
@@ -244,7 +236,7 @@ fn judge_request(
         × Enters r (countedOn (memory (now (bytes .entry)) (now (words .entry))) (callOf request) (r .answer .verdict)) (isStart (callOf request) && eqb (r .answer .verdict) granted) × Fitting r ⌝ }
 {
     let call = call_of(request);
-    judge(bytes, words, lent, order, call)
+    call_lent(bytes, words, lent, order, call)
 }
 
 // A whole call over the lent list, as C and Rust call it.
@@ -258,7 +250,7 @@ pub extern "C" fn tupehiwo_perform(
 ) -> Answer
     ensures { λ r. ⌜ tallied (left (r .verdict) (r .rounds) (now (bytes .exit)) (now (words .exit))) (now (tallies .exit)) ≡ performed order (memory (now (bytes .entry)) (now (words .entry))) (now (tallies .entry)) (callOf request) ⌝ }
 {
-    let entry = judge_request(bytes, words, tallies.len(), order, request);
+    let entry = request_lent(bytes, words, tallies.len(), order, request);
     tallies::enter(tallies, entry);
     entry.answer
 }
@@ -290,8 +282,8 @@ fn load(bytes: &mut [u8], words: &mut [u64], order: Order, text: &[u8]) -> u8
     }
 }
 
-// A load, by all but its list.
-fn judge_load(
+// A load that is lent a list of so many records.
+fn load_lent(
     bytes: &mut [u8],
     words: &mut [u64],
     lent: usize,
@@ -302,9 +294,9 @@ fn judge_load(
         × Enters r 0 (eqb (r .answer .verdict) granted) × Fitting r ⌝ }
 {
     if lent != records::RECORDS {
-        return on_core(model::STATE);
+        return on_record_0(model::STATE);
     }
-    on_core(load(bytes, words, order, text))
+    on_record_0(load(bytes, words, order, text))
 }
 
 // A whole load over the lent list, as C and Rust call it.
@@ -318,7 +310,7 @@ pub extern "C" fn tupehiwo_load(
 ) -> Answer
     ensures { λ r. ⌜ tallied (left (r .verdict) (r .rounds) (now (bytes .exit)) (now (words .exit))) (now (tallies .exit)) ≡ loaded order (memory (now (bytes .entry)) (now (words .entry))) (now (tallies .entry)) (now (text .entry)) ⌝ }
 {
-    let entry = judge_load(bytes, words, tallies.len(), order, text);
+    let entry = load_lent(bytes, words, tallies.len(), order, text);
     tallies::enter(tallies, entry);
     entry.answer
 }

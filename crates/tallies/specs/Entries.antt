@@ -2,26 +2,21 @@
 -- Assumes nothing.
 use mathlib.Core.Path.{_≡_}
 use mathlib.Core.Bool.{Bool, cond}
-use mathlib.Core.List.{List, _++_}
-use Prim.Native.Nat.{ℕ, _<_, _≤_}
-use lib.ListN.{replicate, drop}
+use mathlib.Core.List.{List}
+use Prim.Native.Nat.{ℕ, _<_}
 use Rattle.rows.specs.Size.{present, numbers}
 use Rattle.model.specs.declared.Tally.{Tally}
-use Rattle.model.specs.Tallies.{nothingCounted, listFits, raisedAt}
+use Rattle.model.specs.Tallies.{listFits, zeroed, raisedAt}
 use Rattle.tallies.specs.declared.Entry.{Entry}
 
--- what an entry names lies within a list of the right length
+-- its record is one of a list of the right length
 abbrev pub Fitting : Entry → Type 0
-Fitting n = (n .record < numbers) × (n .zeroed ≤ numbers)
+Fitting n = n .record < numbers
 
--- it counts on record i, and zeroes the whole list first if it begins anew
+-- it counts on record i, and the list begins anew, or not
 abbrev pub Enters : Entry → ℕ → Bool → Type 0
-Enters n i anew = (n .record ≡ i) × (n .zeroed ≡ cond anew numbers 0)
+Enters n i anew = (n .record ≡ i) × (n .anew ≡ anew)
 
--- the first k records zeroed, the others kept
-unfoldable pub firstZeroed : ℕ → List Tally → List Tally
-firstZeroed k ts = replicate k nothingCounted ++ drop k ts
-
--- so many records zeroed, then one raised; a list of another length stays as it is
+-- zeroed if it begins anew, then one record raised; a list of another length stays as it is
 unfoldable pub enteredAs : Entry → List Tally → List Tally
-enteredAs n ts = cond (listFits present ts) (raisedAt (n .record) (n .answer .verdict) (firstZeroed (n .zeroed) ts)) ts
+enteredAs n ts = cond (listFits present ts) (raisedAt (n .record) (n .answer .verdict) (cond (n .anew) (zeroed present) ts)) ts

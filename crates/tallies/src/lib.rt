@@ -17,11 +17,11 @@ use model::Tally;
 // The counts of a record, where a list is lent as plain numbers.
 const COUNTS: usize = 3;
 
-// What a call answers, the record that counts it, and how many records from the first on are zeroed before: all of them, or none.
+// What a call answers, the record that counts it, and whether the list begins anew: it is then zeroed first.
 pub struct Entry {
     pub answer: Answer,
     pub record: u16,
-    pub zeroed: u16,
+    pub anew: bool,
 }
 
 // One more, stopping at the most that 32 bits hold.
@@ -103,7 +103,7 @@ pub fn enter(tallies: &mut [Tally], entry: Entry)
     if tallies.len() != records::RECORDS {
         return;
     }
-    let zeroed = entry.zeroed as usize;
+    let zeroed = entry.anew as usize * records::RECORDS;
     let mut i = 0;
     while i < zeroed {
         tallies[i] = Tally {
@@ -126,13 +126,12 @@ pub fn records_in(counts: &[u32]) -> usize
     counts.len() / COUNTS
 }
 
-// The first numbers of a list zeroed.
-fn zero_counts(counts: &mut [u32], n: usize)
-    requires { ⌜ n ≤ length (now counts) ⌝ }
-    ensures { λ _. ⌜ now (counts .exit) ≡ replicate n 0 ++ drop n (now (counts .entry)) ⌝ }
+// All numbers of such a list zeroed.
+fn zero_counts(counts: &mut [u32])
+    ensures { λ _. ⌜ now (counts .exit) ≡ replicate (length (now (counts .entry))) 0 ⌝ }
 {
     let mut i = 0;
-    while i < n {
+    while i < counts.len() {
         counts[i] = 0;
         i += 1;
     }
@@ -166,8 +165,9 @@ pub fn enter_counts(counts: &mut [u32], entry: Entry)
     if records_in(counts) != records::RECORDS {
         return;
     }
-    let zeroed = entry.zeroed as usize;
-    zero_counts(counts, COUNTS * zeroed);
+    if entry.anew {
+        zero_counts(counts);
+    }
     let record = entry.record as usize;
     raise_counts(counts, record, entry.answer.verdict);
 }

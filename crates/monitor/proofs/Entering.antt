@@ -1,0 +1,78 @@
+-- The entry of a call or of a load, by the way it was answered.
+-- Assumes nothing.
+use mathlib.Core.Path.{_≡_, refl, sym, ap, subst, _∙_}
+use mathlib.Core.Bool.{Bool, true, false, cond, not, _&&_}
+use mathlib.Core.List.{List}
+use Prim.Native.Nat.{ℕ, _<_}
+use lib.Dec.{eqb}
+use borrow.Author.Tests.{eq-eqb, ne-eqb}
+use Rattle.bits.specs.AllLaws.{and-false}
+use Rattle.rows.specs.Size.{numbers}
+use Rattle.levels.specs.declared.Order.{Order}
+use Rattle.levels.specs.Order.{orderPasses}
+use Rattle.records.specs.Records.{sound}
+use Rattle.model.specs.declared.Answer.{Answer}
+use Rattle.model.specs.declared.Call.{Call}
+use Rattle.model.specs.declared.Call.the-variants.{Start}
+use Rattle.model.specs.Verdicts.{granted, row-state, row-order}
+use Rattle.model.specs.State.{Memory, lengthsFit}
+use Rattle.model.specs.Ready.{Ready}
+use Rattle.model.specs.Events.{Outcome, left}
+use Rattle.model.specs.Monitor.{refusal, refusedUnless, start, perform}
+use Rattle.model.specs.Load.{pastOrder}
+use Rattle.model.specs.LoadLaws.{past-rows}
+use Rattle.model.specs.ReadyLaws.{ready-sound}
+use Rattle.model.specs.Tallies.{isStart, asker, countedOn}
+use Rattle.tallies.specs.declared.Entry.{Entry}
+use Rattle.tallies.specs.Entries.{Fitting, Enters}
+use Rattle.tallies.specs.EntryLaws.{not-start}
+use Rattle.monitor.proofs.Rows.{passed, stopped, no-rounds, unfit, disordered}
+
+-- what `on_record_0` says of its entry
+abbrev pub OnZero : Entry → ℕ → Type 0
+OnZero r v = (r .answer .verdict ≡ v) × (r .answer .rounds ≡ 0) × Enters r 0 (eqb v granted) × Fitting r
+
+module _ (o : Order) (m : Memory) (call : Call) where
+  -- what a call's entry says, where its list has the right length
+  abbrev pub Done : Entry → List ℕ → List ℕ → Type 0
+  Done r bs ws = (left (r .answer .verdict) (r .answer .rounds) bs ws ≡ perform o m call) × Enters r (countedOn m call (r .answer .verdict)) (isStart call && eqb (r .answer .verdict) granted) × Fitting r
+
+  -- on record 0, where the model says so
+  on-zero : {r : Entry} {v : ℕ} {bs ws : List ℕ} → OnZero r v → countedOn m call v ≡ 0 → (isStart call && eqb v granted) ≡ eqb v granted → left v 0 bs ws ≡ perform o m call → Done r bs ws
+  on-zero {r} {v} z i a d =
+      (no-rounds (z .0, z .1) d, (z .2 .0 ∙ sym (ap (countedOn m call) (z .0) ∙ i), z .2 .1 ∙ sym (ap (λ n. isStart call && eqb n granted) (z .0) ∙ a)), z .3)
+
+  pub start-entry : call ≡ Start → {r : Entry} {v : ℕ} {bs ws : List ℕ} → OnZero r v → left v 0 bs ws ≡ start o m → Done r bs ws
+  unfolding countedOn asker isStart
+  start-entry e {r} {v} z d = on-zero z (rw e (either-way (pastOrder v))) (rw e) (d ∙ ap (perform o m) (sym e))
+    where
+      either-way : (b : Bool) → cond b 0 0 ≡ 0
+      either-way true = refl
+      either-way false = refl
+
+  module _ (later : call ≡ Start → ⊥) where
+    pub state-entry : not (lengthsFit m && sound o (m .bytes)) ≡ true → {r : Entry} → OnZero r row-state → Done r (m .bytes) (m .words)
+    unfolding countedOn pastOrder
+    state-entry f z = on-zero z refl (and-false (isStart call)) (sym (unfit o m call later f))
+
+    pub order-entry : not (lengthsFit m && sound o (m .bytes)) ≡ false → not (orderPasses o) ≡ true → {r : Entry} → OnZero r row-order → Done r (m .bytes) (m .words)
+    unfolding countedOn pastOrder
+    order-entry f p z = on-zero z refl (and-false (isStart call)) (sym (disordered o m call later f p))
+
+    -- past rows 2 and 3: on the asker's
+    pub event-entry : Ready o (m .bytes) (m .words) → {a : Answer} {k : ℕ} {bs ws : List ℕ} → left (a .verdict) (a .rounds) bs ws ≡ perform o m call → k ≡ asker m call → k < numbers
+        → Done (record { answer = a; record = k; anew = false }) bs ws
+    unfolding countedOn
+    event-entry r {a} {k} d e l =
+        let past = past-rows o (r .2) m (ready-sound o m r) call in
+        let v = ap (λ (out : Outcome). out .verdict) d in
+        (d, (e ∙ sym (ap (λ b. cond b (asker m call) 0) (ap pastOrder v ∙ past)), sym (ap (λ b. b && eqb (a .verdict) granted) (not-start call later))), l)
+
+-- ---- by the length of the list
+
+module _ (m : Memory) (lent : ℕ) (out : Outcome) where
+  pub fitting : lent ≡ numbers → out ≡ refusedUnless (eqb lent numbers) row-state m out
+  fitting e = sym (passed (eqb lent numbers) row-state m out (eq-eqb _ _ e))
+
+  pub another : (lent ≡ numbers → ⊥) → record { verdict = row-state; rounds = 0; memory = m } ≡ refusedUnless (eqb lent numbers) row-state m out
+  another e = sym (stopped (eqb lent numbers) row-state m out (ne-eqb _ _ e))
