@@ -8,7 +8,7 @@ use Prim.Native.Nat.{ℕ, _≤_}
 use native.Mathlib.Omega.{arith}
 use lib.Dec.{eqb}
 use lib.ListN.{length, replicate, drop, drop-of-length-le}
-use borrow.Author.Tests.{eqb-true}
+use borrow.Author.Tests.{eqb-true, eq-eqb, ne-eqb}
 use Rattle.bits.specs.AllLaws.{either}
 use Rattle.rows.specs.Size.{present, numbers}
 use Rattle.levels.specs.declared.Order.{Order}
@@ -37,6 +37,17 @@ zeroed-or-kept false ts e = refl
 pub within : (anew : Bool) → cond anew numbers 0 ≤ numbers
 within true = omega arith
 within false = omega arith
+
+-- ---- what an entry leaves of a list of another length, and of one that fits
+
+module _ (n : Entry) (ts : List Tally) where
+  pub unfit-kept : (length ts ≡ numbers → ⊥) → ts ≡ enteredAs n ts
+  unfolding enteredAs listFits
+  unfit-kept h = rw (ne-eqb _ _ h)
+
+  pub fit-entered : length ts ≡ numbers → raisedAt (n .record) (n .answer .verdict) (firstZeroed (n .zeroed) ts) ≡ enteredAs n ts
+  unfolding enteredAs listFits
+  fit-entered e = rw (eq-eqb _ _ e)
 
 -- ---- an outcome that a list of another length refuses, and its entry in the list. Which record counts, and whether the list begins anew, goes by the verdict
 

@@ -1,14 +1,14 @@
 // The lists of tallies: who asks, and how a call is entered in the list that it is lent.
 ghost use mathlib.Core.Path.{_≡_};
-ghost use mathlib.Core.List.{List, _++_};
-ghost use Prim.Native.Nat.{ℕ, _<_, _≤_};
-ghost use lib.ListN.{length, replicate, drop};
+ghost use mathlib.Core.List.{List};
+ghost use Prim.Native.Nat.{ℕ, _+_, _*_, _<_, _≤_};
+ghost use lib.ListN.{length};
 ghost use Rattle.rows.specs.Size.{numbers};
 ghost use Rattle.records.specs.Records.{BytesLent};
 ghost use Rattle.model.specs.State.{memory};
 ghost use Rattle.model.specs.Tallies as model;
 ghost use Rattle.model.specs.Tallies.{oneMore, raised, raisedAt, ifTask};
-ghost use Rattle.tallies.specs.Entries.{Fitting, enteredAs};
+ghost use Rattle.tallies.specs.Entries.{Fitting, firstZeroed, enteredAs};
 ghost use Rattle.tallies.specs.Counts.{recordsIn};
 use model::Answer;
 use model::Call;
@@ -126,24 +126,25 @@ pub fn records_in(counts: &[u32]) -> usize
     counts.len() / COUNTS
 }
 
-// The first numbers of a list zeroed.
+// The first n records of such a list zeroed.
 fn zero_counts(counts: &mut [u32], n: usize)
-    requires { ⌜ n ≤ length (now counts) ⌝ }
-    ensures { λ _. ⌜ now (counts .exit) ≡ replicate n 0 ++ drop n (now (counts .entry)) ⌝ }
+    requires { ⌜ 3 * n ≤ length (now counts) ⌝ }
+    ensures { λ _. ⌜ recordsIn (now (counts .exit)) ≡ firstZeroed n (recordsIn (now (counts .entry))) ⌝ }
 {
+    let end = COUNTS * n;
     let mut i = 0;
-    while i < n {
+    while i < end {
         counts[i] = 0;
         i += 1;
     }
 }
 
 // One record of such a list raised.
-fn raise_counts(counts: &mut [u32], record: usize, verdict: u8)
-    requires { ⌜ record < length (recordsIn (now counts)) ⌝ }
-    ensures { λ _. ⌜ recordsIn (now (counts .exit)) ≡ raisedAt record verdict (recordsIn (now (counts .entry))) ⌝ }
+fn raise_counts(counts: &mut [u32], number: usize, verdict: u8)
+    requires { ⌜ 3 * number + 2 < length (now counts) ⌝ }
+    ensures { λ _. ⌜ recordsIn (now (counts .exit)) ≡ raisedAt number verdict (recordsIn (now (counts .entry))) ⌝ }
 {
-    let i = COUNTS * record;
+    let i = COUNTS * number;
     let granted = counts[i];
     let slipped = counts[i + 1];
     let refused = counts[i + 2];
@@ -167,7 +168,7 @@ pub fn enter_counts(counts: &mut [u32], entry: Entry)
         return;
     }
     let zeroed = entry.zeroed as usize;
-    zero_counts(counts, COUNTS * zeroed);
+    zero_counts(counts, zeroed);
     let record = entry.record as usize;
     raise_counts(counts, record, entry.answer.verdict);
 }
