@@ -1,20 +1,20 @@
 // The lists of tallies: who asks, and how a call is entered in the list that it is lent.
 ghost use mathlib.Core.Path.{_≡_};
-ghost use mathlib.Core.List.{List, _++_};
-ghost use Prim.Native.Nat.{ℕ, _<_, _≤_};
-ghost use lib.ListN.{length, replicate, drop};
+ghost use mathlib.Core.List.{List};
+ghost use Prim.Native.Nat.{ℕ, _+_, _*_, _<_, _≤_};
+ghost use lib.ListN.{length};
 ghost use Rattle.rows.specs.Size.{numbers};
 ghost use Rattle.records.specs.Records.{BytesLent};
 ghost use Rattle.model.specs.State.{memory};
 ghost use Rattle.model.specs.Tallies as model;
 ghost use Rattle.model.specs.Tallies.{oneMore, raised, raisedAt, ifTask};
 ghost use Rattle.tallies.specs.Entries.{Fitting, enteredAs};
-ghost use Rattle.tallies.specs.Counts.{recordsIn};
+ghost use Rattle.tallies.specs.Counts.{recordsIn, over, firstZeroed};
 use model::Answer;
 use model::Call;
 use model::Tally;
 
-// The counts of a record, where a list is lent as plain numbers.
+// How many counts a record has, where a list is lent as plain numbers.
 const COUNTS: usize = 3;
 
 // What a call answers, the record that counts it, and whether the list begins anew: it is then zeroed first.
@@ -126,23 +126,25 @@ pub fn records_in(counts: &[u32]) -> usize
     counts.len() / COUNTS
 }
 
-// All numbers of such a list zeroed.
-fn zero_counts(counts: &mut [u32])
-    ensures { λ _. ⌜ now (counts .exit) ≡ replicate (length (now (counts .entry))) 0 ⌝ }
+// The first n records of such a list zeroed.
+fn zero_counts(counts: &mut [u32], n: usize)
+    requires { ⌜ 3 * n ≤ length (now counts) ⌝ }
+    ensures { λ _. ⌜ (recordsIn (now (counts .exit)) ≡ firstZeroed n (recordsIn (now (counts .entry)))) × (over (now (counts .exit)) ≡ over (now (counts .entry))) ⌝ }
 {
+    let end = COUNTS * n;
     let mut i = 0;
-    while i < counts.len() {
+    while i < end {
         counts[i] = 0;
         i += 1;
     }
 }
 
 // One record of such a list raised.
-fn raise_counts(counts: &mut [u32], record: usize, verdict: u8)
-    requires { ⌜ record < length (recordsIn (now counts)) ⌝ }
-    ensures { λ _. ⌜ recordsIn (now (counts .exit)) ≡ raisedAt record verdict (recordsIn (now (counts .entry))) ⌝ }
+fn raise_counts(counts: &mut [u32], number: usize, verdict: u8)
+    requires { ⌜ 3 * number + 2 < length (now counts) ⌝ }
+    ensures { λ _. ⌜ (recordsIn (now (counts .exit)) ≡ raisedAt number verdict (recordsIn (now (counts .entry)))) × (over (now (counts .exit)) ≡ over (now (counts .entry))) ⌝ }
 {
-    let i = COUNTS * record;
+    let i = COUNTS * number;
     let granted = counts[i];
     let slipped = counts[i + 1];
     let refused = counts[i + 2];
@@ -160,14 +162,12 @@ fn raise_counts(counts: &mut [u32], record: usize, verdict: u8)
 // Enters a call in a list of plain numbers, as programs in Rattle lend it: what goes through a reference to structs is proved by hand.
 pub fn enter_counts(counts: &mut [u32], entry: Entry)
     requires { ⌜ Fitting entry ⌝ }
-    ensures { λ _. ⌜ recordsIn (now (counts .exit)) ≡ enteredAs entry (recordsIn (now (counts .entry))) ⌝ }
+    ensures { λ _. ⌜ (recordsIn (now (counts .exit)) ≡ enteredAs entry (recordsIn (now (counts .entry)))) × (over (now (counts .exit)) ≡ over (now (counts .entry))) ⌝ }
 {
     if records_in(counts) != records::RECORDS {
         return;
     }
-    if entry.anew {
-        zero_counts(counts);
-    }
+    zero_counts(counts, entry.anew as usize * records::RECORDS);
     let record = entry.record as usize;
     raise_counts(counts, record, entry.answer.verdict);
 }
