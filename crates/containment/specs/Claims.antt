@@ -87,7 +87,7 @@ abbrev pub LoadsSound : Type 0
 LoadsSound = (size : Size) (o : Order) (m : MemoryOf size) (t : List ℕ) → pastOrder (load o m t .verdict) ≡ true
     → (lengthsFit (load o m t .memory) ≡ true) × (soundOf size o (load o m t .memory .bytes) ≡ true)
 
--- so no call and no load of a list is refused with 2 under the last granted start's order
+-- so no call and no load of a list, lent tallies of the right length, is refused with 2 under the last granted start's order
 abbrev pub NeverUnsound : Type 0
 NeverUnsound = (size : Size) (b : Item) (m : MemoryOf size) (is : List Item) → Reached b m is
     → ((c : Call) → perform (run is (begun b m) .order) (run is (begun b m) .memory) c .verdict ≡ row-state → ⊥)

@@ -1,6 +1,8 @@
 pub mod Lists
 pub mod Chains
+pub mod TallyLists
 pub mod Claims
+pub mod TallyClaims
 pub mod Roots
 pub mod Tables
 pub mod Invariant
@@ -16,4 +18,5 @@ pub mod SpreadProof
 pub mod PlaceProof
 pub mod Witness
 pub mod LoadProof
+pub mod TallyProof
 pub mod Proved

@@ -38,6 +38,8 @@ use Rattle.containment.specs.Witness.{upward, upward-granted, upward-mar
 pub use Rattle.containment.specs.SpreadProof.{spread-exact}
 pub use Rattle.containment.specs.PlaceProof.{inside-exact, move-place}
 pub use Rattle.containment.specs.LoadProof.{layout-gives, load-gives, loads-sound, refused-load, untouched-by-load, load-is-list, load-tells, load-rows}
+pub use Rattle.containment.specs.TallyProof.{another-length, never-tested, refusal-keeps, refused-load-keeps, others-kept, all-asked, on-asker, on-record-zero, begun-anew, tallies-apart, whole-reached}
+use Rattle.containment.specs.TallyClaims.{WholeContainment}
 
 -- what a list leaves
 reached : {size : Size} (b : Item) (m : MemoryOf size) (is : List Item) → Reached b m is → Invariant (run is (begun b m))
@@ -45,6 +47,10 @@ reached b m is r = run-keeps is (begun b m) (begun-keeps (r .beginning)) (r .adm
 
 pub containment : Containment
 containment size b m is r = contained (run is (begun b m)) (reached b m is r .limits)
+
+-- whatever tallies are lent
+pub whole-containment : WholeContainment
+whole-containment size b m is g a = rw (tallies-apart size is (begun b m)) (containment size b m _ (whole-reached size b m is g a))
 
 -- what makes the state of a start leaves the same whatever was there
 started-memory : {size : Size} (o : Order) (m : MemoryOf size) → perform o m Start .verdict ≡ granted → perform o m Start .memory ≡ started o

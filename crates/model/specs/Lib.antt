@@ -18,9 +18,12 @@ pub mod MoveTrials
 pub mod TrialsProved
 pub mod LoadTrial
 pub mod LoadTrialProved
+pub mod TallyTrials
+pub mod TallyTrialsProved
 pub mod TableLaws
 pub mod EffectLaws
 pub mod SoundLaws
 pub mod LoadLaws
+pub mod TallyLaws
 pub mod ReadyLaws
 pub mod RiskLaws
