@@ -27,6 +27,9 @@ raise-counts-requires c κs =
     let z = c .before .before .before .before in
     omega (arith, z .zero-counts .kept .0, records-count (z .before .before .before .before .before .before .before .args .counts .now))
 
+mul-zero-counts : tie.Need-mul-zero-counts
+mul-zero-counts c = let l = at-most (c .before .before .before .before .before .before .args .entry .anew) in omega (arith, l)
+
 returns-2 : tie.Need-returns-2
 returns-2 c =
     let r = c .before .before in
@@ -46,6 +49,7 @@ enter-counts-spec =
     (λ c. search needs)
     returns
     (λ c. search needs)
+    mul-zero-counts
     zero-counts-requires
     (λ c. search needs)
     raise-counts-requires
