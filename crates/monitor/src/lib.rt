@@ -16,7 +16,7 @@ ghost use Rattle.model.specs.Load as loads;
 ghost use Rattle.model.specs.Load.{inTurn, whole, layoutChecked};
 ghost use Rattle.loading.specs.Calls.{callsIn};
 ghost use Rattle.tallies.specs.Entries.{Fitting, Enters};
-ghost use Rattle.tallies.specs.Counts.{recordsIn};
+ghost use Rattle.tallies.specs.Counts.{recordsIn, over};
 ghost use Rattle.monitor.specs.Request.{callOf};
 use layout::Text;
 use levels::Order;
@@ -123,8 +123,9 @@ fn plain(verdict: u8) -> Answer
 fn on_record_0(verdict: u8) -> Entry
     ensures { λ r. ⌜ (r .answer .verdict ≡ verdict) × (r .answer .rounds ≡ 0) × Enters r 0 (eqb verdict granted) × Fitting r ⌝ }
 {
+    let answer = plain(verdict);
     Entry {
-        answer: plain(verdict),
+        answer,
         record: 0,
         anew: verdict == model::GRANTED,
     }
@@ -190,8 +191,9 @@ fn carry_out(bytes: &mut [u8], words: &mut [u64], order: Order, call: Call) -> E
         return on_record_0(model::ORDER);
     }
     let record = tallies::asker(bytes, call);
+    let answer = event(bytes, words, order, call);
     Entry {
-        answer: event(bytes, words, order, call),
+        answer,
         record,
         anew: false,
     }
@@ -216,7 +218,8 @@ pub fn perform(
     order: Order,
     call: Call,
 ) -> Answer
-    ensures { λ r. ⌜ tallied (left (r .verdict) (r .rounds) (now (bytes .exit)) (now (words .exit))) (recordsIn (now (counts .exit))) ≡ performed order (memory (now (bytes .entry)) (now (words .entry))) (recordsIn (now (counts .entry))) call ⌝ }
+    ensures { λ r. ⌜ (tallied (left (r .verdict) (r .rounds) (now (bytes .exit)) (now (words .exit))) (recordsIn (now (counts .exit))) ≡ performed order (memory (now (bytes .entry)) (now (words .entry))) (recordsIn (now (counts .entry))) call)
+        × (over (now (counts .exit)) ≡ over (now (counts .entry))) ⌝ }
 {
     let lent = tallies::records_in(counts);
     let entry = call_lent(bytes, words, lent, order, call);
