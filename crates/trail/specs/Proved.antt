@@ -219,7 +219,7 @@ script-contained input =
     let e = ends input in
     rw (e .0 .0, e .0 .1) (⊎-elim (λ h. rw h unstarted-contained) (λ b. rw (b .leaves) (containment present (asks (b .order) Start) _ (b .items) (b .reached))) (e .1))
 
--- ---- the lengths are right; and the bytes are sound and the order passes, once a start was granted
+-- ---- the lengths are right, the list's too; and the bytes are sound and the order passes, once a start was granted
 
 zeros-fit : lengthsFit zeros ≡ true
 unfolding lengthsFit zeros
@@ -232,6 +232,9 @@ ends-fit : (input : List ℕ) → lengthsFit (atEnd input .memory) ≡ true
 ends-fit input =
     let e = ends input in
     rw (e .0 .0) (⊎-elim (λ h. rw h zeros-fit) (λ b. begun-fitted (calls input) b .lengths) (e .1))
+
+ends-listed : (input : List ℕ) → listFits present (atEnd input .tallies) ≡ true
+ends-listed input = ends input .0 .2
 
 -- ---- the report
 
@@ -268,5 +271,5 @@ pub over-sixteen : OverSixteen
 unfolding afterLine lineDone doneBy startedWith answered
 over-sixteen input l count rest e n h =
     let r = too-many-refused (tooMany (value count) .order) (atEnd input .memory) (ends-fit input) h in
-    let t = start-counted (tooMany (value count) .order) (atEnd input .memory) (atEnd input .tallies) (ends input .0 .2) r in
+    let t = start-counted (tooMany (value count) .order) (atEnd input .memory) (atEnd input .tallies) (ends-listed input) r in
     rw (read-too-many l count rest e n h, t) (unfold refusal in refl)

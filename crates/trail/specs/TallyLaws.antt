@@ -1,4 +1,4 @@
--- Laws of a whole call and its list of tallies: the list keeps its length, and one of the right length leaves the outcome to the call alone.
+-- Laws of a whole call and its list of tallies: one of the right length stays so, and leaves the outcome to the call alone.
 -- Assumes nothing.
 use mathlib.Core.Path.{_≡_, refl}
 use mathlib.Core.Bool.{Bool, true, false, cond, _&&_}
@@ -16,7 +16,7 @@ use Rattle.model.specs.Verdicts.{granted, row-order}
 use Rattle.model.specs.State.{MemoryOf}
 use Rattle.model.specs.Load.{pastOrder}
 use Rattle.model.specs.Monitor.{refusal, perform}
-use Rattle.model.specs.Tallies.{TalliedOf, nothingCounted, listFits, zeroed, raisedAt, isStart, countedOn, withList, counted, performed}
+use Rattle.model.specs.Tallies.{nothingCounted, listFits, zeroed, raisedAt, isStart, countedOn, withList, counted, performed}
 
 pub zeroed-fits : (size : Size) → listFits size (zeroed size) ≡ true
 unfolding listFits zeroed
@@ -31,7 +31,6 @@ anew-fits size true ts h = zeroed-fits size
 anew-fits size false ts h = h
 
 module _ {size : Size} (o : Order) (m : MemoryOf size) (ts : List Tally) where
-  -- a list of the right length
   pub performed-outcome : (c : Call) → listFits size ts ≡ true → performed o m ts c .outcome ≡ perform o m c
   unfolding performed withList counted
   performed-outcome c h = rw h

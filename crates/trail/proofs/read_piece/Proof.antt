@@ -1,5 +1,4 @@
 use mathlib.Core.Path.{refl, sym, ap}
-use native.Mathlib.Omega.{arith}
 use lib.Seq.{length-take-le}
 use borrow.Author.Needs.{needs}
 use Rattle.trail.specs.Feeding.{emptied}
