@@ -5,10 +5,11 @@ use mathlib.Core.List.{List}
 use Prim.Native.Nat.{ℕ, _+_, _*_, _≤_}
 use lib.ListN.{length, take}
 use Rattle.rows.specs.Size.{numbers}
+use Rattle.levels.specs.declared.Order.{Order}
 use Rattle.model.specs.State.{memory}
+use Rattle.tallies.specs.Counts.{recordsIn}
 use Rattle.trail.specs.Script.{Progress, atEnd}
 use Rattle.trail.specs.Feeding.{lineSize, Reading, nothingFed, afterPiece, finished, emptied}
-use Rattle.trail.specs.declared.lines.Run.{Run}
 use Rattle.trail.specs.declared.feeding.State.{State}
 
 -- the most bytes that answer a line, and that the line of marked numbers has
@@ -22,20 +23,21 @@ markedSize = 8 * numbers
 abbrev pub Sized : List ℕ → List ℕ → List ℕ → Type 0
 Sized input line out = (length line ≡ lineSize) × (answerSize * length input ≤ length out) × (answerSize + markedSize ≤ length out)
 
-abbrev pub progressIn : Run → ℕ → List ℕ → List ℕ → List ℕ → Progress
-progressIn r used out bs ws = record { printed = take used out; run = r; memory = memory bs ws }
+abbrev pub progressIn : Order → ℕ → List ℕ → List ℕ → List ℕ → List ℕ → Progress
+progressIn o used out bs ws ns = record { printed = take used out; order = o; memory = memory bs ws; tallies = recordsIn ns }
 
-abbrev pub readingIn : State → List ℕ → List ℕ → List ℕ → List ℕ → Reading
-readingIn s line out bs ws = record { line = take (s .filled) line; progress = progressIn (s .run) (s .used) out bs ws }
+abbrev pub readingIn : State → List ℕ → List ℕ → List ℕ → List ℕ → List ℕ → Reading
+readingIn s line out bs ws ns = record { line = take (s .filled) line; progress = progressIn (s .order) (s .used) out bs ws ns }
 
 -- some input, fed from its first byte on, leaves r, and what it printed is no longer held
 pub record SomeInput (r : Reading) : Type 0 where
   pub input : List ℕ
   pub leaves : r ≡ emptied (afterPiece input nothingFed)
 
--- the memory is that of a script at its end, and what it prints last is left to be written. That its input is the one on standard input,
--- no contract can say
-pub record SomeScript (used : ℕ) (out bs ws : List ℕ) : Type 0 where
+-- the memory and the tallies are those of a script at its end, and what it prints last is left to be written. That its input is the one on
+-- standard input, no contract can say
+pub record SomeScript (used : ℕ) (out bs ws ns : List ℕ) : Type 0 where
   pub input : List ℕ
   pub ends : memory bs ws ≡ atEnd input .memory
+  pub counted : recordsIn ns ≡ atEnd input .tallies
   pub left : take used out ≡ finished (emptied (afterPiece input nothingFed)) .printed

@@ -11,7 +11,7 @@ use Rattle.levels.specs.Order.{mostLevels}
 use Rattle.model.specs.declared.Call.the-variants.{Start}
 use Rattle.model.specs.State.{marked}
 use Rattle.model.specs.Verdicts.{row-order}
-use Rattle.model.specs.Monitor.{raised}
+use Rattle.model.specs.Tallies.{raisedAt}
 use Rattle.script.specs.Script.{noOrder, startWord, pieces, isNumber, value, readLine}
 use Rattle.script.specs.Print.{lineFeed, replyLine}
 use Rattle.script.specs.declared.Line.{Line}
@@ -39,7 +39,7 @@ PiecesJoined = (c d : List ℕ) (r : Reading) → afterPiece (c ++ d) r ≡ afte
 abbrev pub InPieces : Type 0
 InPieces = (cs : List (List ℕ)) → written cs nothingFed ≡ output (joined cs)
 
--- and the end is the script's: what it printed, what it keeps and the memory
+-- and the end is the script's: what it printed, and what it keeps
 abbrev pub EndsAlike : Type 0
 EndsAlike = (input : List ℕ) → closed (afterPiece input nothingFed) ≡ atEnd input
 
@@ -59,7 +59,7 @@ callsBy kept o (Asks c) = asks kept c ∷ []
 
 unfoldable pub callsOf : List (List ℕ) → Progress → List Item
 callsOf [] p = []
-callsOf (l ∷ ls) p = callsBy (p .run .order) (readLine l .order) (readLine l .line) ++ callsOf ls (afterLine l p)
+callsOf (l ∷ ls) p = callsBy (p .order) (readLine l .order) (readLine l .line) ++ callsOf ls (afterLine l p)
 
 abbrev pub calls : List ℕ → List Item
 calls input = callsOf (lines input) nothingRead
@@ -85,7 +85,7 @@ pub record Begun (is : List Item) : Type 0 where
 -- zeros, as where no start is granted, or they are a list of demand 3 from a granted start on
 pub record IsList (input : List ℕ) : Type 0 where
   pub memory : atEnd input .memory ≡ standing (calls input) .memory
-  pub order : atEnd input .run .order ≡ standing (calls input) .order
+  pub order : atEnd input .order ≡ standing (calls input) .order
   pub started : (standing (calls input) ≡ unstarted) ⊎ Begun (calls input)
 
 abbrev pub RunsLists : Type 0
@@ -93,14 +93,15 @@ RunsLists = (input : List ℕ) → IsList input
 
 -- so what a script ends with is contained
 abbrev pub ScriptContained : Type 0
-ScriptContained = (input : List ℕ) → Contained (record { order = atEnd input .run .order; memory = atEnd input .memory; outside = standing (calls input) .outside })
+ScriptContained = (input : List ℕ) → Contained (record { order = atEnd input .order; memory = atEnd input .memory; outside = standing (calls input) .outside })
 
--- ---- a start whose count is over sixteen gives 3, whatever follows the count, is counted as refused and changes nothing else
+-- ---- a start whose count is over sixteen gives 3, whatever follows the count, is counted as refused on record 0 and changes nothing else
 
 abbrev pub OverSixteen : Type 0
 OverSixteen = (input l count : List ℕ) (rest : List (List ℕ)) → pieces l ≡ startWord ∷ count ∷ rest → isNumber count ≡ true → mostLevels < value count
     → afterLine l (atEnd input) ≡ record {
       printed = atEnd input .printed ++ replyLine (Verdict row-order);
-      run = record { order = atEnd input .run .order; tally = raised (atEnd input .run .tally) row-order };
+      order = atEnd input .order;
       memory = atEnd input .memory;
+      tallies = raisedAt 0 row-order (atEnd input .tallies);
     }

@@ -42,13 +42,13 @@ closed r = lastLine (r .line) (r .progress)
 
 -- with the marked numbers behind it
 unfoldable pub finished : Reading → Progress
-finished r = record { printed = withMarked (closed r); run = closed r .run; memory = closed r .memory }
+finished r = record { printed = withMarked (closed r); order = closed r .order; memory = closed r .memory; tallies = closed r .tallies }
 
 -- ---- what is written
 
 -- what was printed is no longer held. That it was written, no contract can say
 unfoldable pub emptied : Reading → Reading
-emptied r = record { line = r .line; progress = record { printed = []; run = r .progress .run; memory = r .progress .memory } }
+emptied r = record { line = r .line; progress = record { printed = []; order = r .progress .order; memory = r .progress .memory; tallies = r .progress .tallies } }
 
 -- the answers to each piece before the next one comes, and what is left at the end
 unfoldable pub written : List (List ℕ) → Reading → List ℕ

@@ -27,7 +27,7 @@ pieces-joined (b ∷ c) d f = pieces-joined c d (afterByte b f)
 -- ---- what was printed before changes nothing of what comes after
 
 ahead : List ℕ → Progress → Progress
-ahead t p = record { printed = t ++ p .printed; run = p .run; memory = p .memory }
+ahead t p = record { printed = t ++ p .printed; order = p .order; memory = p .memory; tallies = p .tallies }
 
 readingAhead : List ℕ → Reading → Reading
 readingAhead t f = record { line = f .line; progress = ahead t (f .progress) }
@@ -145,10 +145,16 @@ pub whole : (input : List ℕ) → finished (afterPiece input nothingFed) .print
 unfolding finished output
 whole input = ap withMarked (closed-whole input)
 
--- and it ends with the script's memory, whatever was written before
-pub finished-memory : (input : List ℕ) → finished (emptied (afterPiece input nothingFed)) .memory ≡ atEnd input .memory
-unfolding finished
-finished-memory input =
+-- and it ends with the script's memory and tallies, whatever was written before
+end-emptied : (input : List ℕ) → ahead (afterPiece input nothingFed .progress .printed) (closed (emptied (afterPiece input nothingFed))) ≡ atEnd input
+end-emptied input =
     let r = afterPiece input nothingFed in
-    let e : closed r ≡ ahead (r .progress .printed) (closed (emptied r)) = ap closed (sym (is-ahead r)) ∙ closed-ahead (r .progress .printed) (emptied r) in
-    sym (ap (λ (p : Progress). p .memory) e ∙ (unfold ahead in refl)) ∙ ap (λ (p : Progress). p .memory) (closed-whole input)
+    sym (ap closed (sym (is-ahead r)) ∙ closed-ahead (r .progress .printed) (emptied r)) ∙ closed-whole input
+
+pub finished-memory : (input : List ℕ) → finished (emptied (afterPiece input nothingFed)) .memory ≡ atEnd input .memory
+unfolding finished ahead
+finished-memory input = ap (λ (p : Progress). p .memory) (end-emptied input)
+
+pub finished-tallies : (input : List ℕ) → finished (emptied (afterPiece input nothingFed)) .tallies ≡ atEnd input .tallies
+unfolding finished ahead
+finished-tallies input = ap (λ (p : Progress). p .tallies) (end-emptied input)

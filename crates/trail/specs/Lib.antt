@@ -9,3 +9,4 @@ pub mod Marked
 pub mod MarkedLaws
 pub mod Proved
 pub mod Script
+pub mod TallyLaws

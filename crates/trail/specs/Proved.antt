@@ -25,6 +25,7 @@ use Rattle.model.specs.State.{Memory, lengthsFit, marked, hasFlow}
 use Rattle.model.specs.Events.{Outcome, outcome}
 use Rattle.model.specs.Spread.{spread}
 use Rattle.model.specs.Monitor.{refusal, refusedUnless, fitted, start, perform, markedWords, noReport, report}
+use Rattle.model.specs.Tallies.{listFits}
 use Rattle.model.specs.TableLaws.{Fitted, fitted-done, start-done, by-call, refused-keeps}
 use Rattle.script.specs.Script.{noOrder, startWord, pieces, isNumber, value, sameWord, startOf, lineOf, readLine, tooMany}
 use Rattle.script.specs.declared.Line.{Line}
@@ -36,6 +37,7 @@ use Rattle.trail.specs.Lines.{answered, asked, startedWith, doneBy, line
 use Rattle.trail.specs.Marked.{isMarked, markedLine}
 use Rattle.trail.specs.MarkedLaws.{listed-alike}
 use Rattle.trail.specs.Script.{Progress, lines, zeros, nothingRead, afterLine, afterLines, withMarked, atEnd, output}
+use Rattle.trail.specs.TallyLaws.{zeroed-fits, performed-outcome, performed-fits, start-counted}
 use Rattle.trail.specs.Feeding.{nothingFed}
 use Rattle.trail.specs.FeedingLaws.{written-is, whole, closed-whole}
 use Rattle.trail.specs.Claims.{joined, InPieces, EndsAlike, ListsMarked, callsBy, callsOf, calls, unstarted, standing, Begun, RunsLists, ScriptContained, OverSixteen}
@@ -151,25 +153,31 @@ first-start is o e =
 
 -- ---- a line, and all lines
 
+-- and the list of tallies has the right length, so that no call is refused for it
 abbrev Agree : Progress → Standing → Type 0
-Agree p s = (p .memory ≡ s .memory) × (p .run .order ≡ s .order)
+Agree p s = (p .memory ≡ s .memory) × (p .order ≡ s .order) × (listFits present (p .tallies) ≡ true)
 
 line-runs : (k : Line) (o : Order) (p : Progress) (is : List Item) → Agree p (standing is) → Stands is
-    → (doneBy (p .memory) (p .run) o k .memory ≡ standing (is ++ callsBy (p .run .order) o k) .memory)
-    × (doneBy (p .memory) (p .run) o k .done .run .order ≡ standing (is ++ callsBy (p .run .order) o k) .order)
-    × Stands (is ++ callsBy (p .run .order) o k)
+    → (doneBy (p .memory) (p .tallies) (p .order) o k .memory ≡ standing (is ++ callsBy (p .order) o k) .memory)
+    × (doneBy (p .memory) (p .tallies) (p .order) o k .done .order ≡ standing (is ++ callsBy (p .order) o k) .order)
+    × (listFits present (doneBy (p .memory) (p .tallies) (p .order) o k .tallies) ≡ true)
+    × Stands (is ++ callsBy (p .order) o k)
 unfolding doneBy callsBy standing startedWith asked answered
-line-runs Bad o p is a b = rw append-nil (a .0, a .1, b)
+line-runs Bad o p is a b = rw append-nil (a .0, a .1, a .2, b)
 line-runs Starts o p is a b =
-    let s = run is unstarted in (
-      rw (run-more is (asks o Start) unstarted, a .0) (sym (next-memory o Start s)),
-      rw (run-more is (asks o Start) unstarted, a .0, a .1) (sym (start-order o s)),
+    let s = run is unstarted in
+    let out = performed-outcome o (p .memory) (p .tallies) Start (a .2) in (
+      rw (run-more is (asks o Start) unstarted, out, a .0) (sym (next-memory o Start s)),
+      rw (run-more is (asks o Start) unstarted, out, a .0, a .1) (sym (start-order o s)),
+      performed-fits o (p .memory) (p .tallies) Start (a .2),
       ⊎-elim (λ e. first-start is o e) (λ g. inr (begun-more is g (asks o Start) (inl refl))) b,
     )
 line-runs (Asks c) o p is a b =
-    let s = run is unstarted in (
-      rw (a .1, run-more is (asks (s .order) c) unstarted, a .0) (sym (next-memory (s .order) c s)),
+    let s = run is unstarted in
+    let out = performed-outcome (s .order) (p .memory) (p .tallies) c (a .2) in (
+      rw (a .1, run-more is (asks (s .order) c) unstarted, out, a .0) (sym (next-memory (s .order) c s)),
       rw (a .1, run-more is (asks (s .order) c) unstarted) (sym (next-order c s)),
+      performed-fits (p .order) (p .memory) (p .tallies) c (a .2),
       rw (a .1) (⊎-elim (λ e. inl (rw e (refused-more is noOrder c e (none-done c)))) (λ g. inr (begun-more is g (asks (s .order) c) (inr (λ d. refl)))) b),
     )
 
@@ -178,14 +186,14 @@ lines-run : (ls : List (List ℕ)) (p : Progress) (is : List Item) → Agree p (
 unfolding afterLines callsOf
 lines-run [] p is a b = rw append-nil (a, b)
 lines-run (l ∷ ls) p is a b =
-    let c = callsBy (p .run .order) (readLine l .order) (readLine l .line) in
+    let c = callsBy (p .order) (readLine l .order) (readLine l .line) in
     let t = line-runs (readLine l .line) (readLine l .order) p is a b in
-    rw (← append-assoc is c (callsOf ls (afterLine l p))) (lines-run ls (afterLine l p) (is ++ c) (unfold afterLine lineDone in (t .0, t .1)) (t .2))
+    rw (← append-assoc is c (callsOf ls (afterLine l p))) (lines-run ls (afterLine l p) (is ++ c) (unfold afterLine lineDone in (t .0, t .1, t .2)) (t .3))
 
 -- the whole input
 ends : (input : List ℕ) → Agree (atEnd input) (standing (calls input)) × Stands (calls input)
 unfolding atEnd nothingRead
-ends input = lines-run (lines input) nothingRead [] (unfold standing run in (refl, refl)) (inl (unfold standing run in refl))
+ends input = lines-run (lines input) nothingRead [] (unfold standing run in (refl, refl, zeroed-fits present)) (inl (unfold standing run in refl))
 
 pub runs-lists : RunsLists
 runs-lists input =
@@ -211,7 +219,7 @@ script-contained input =
     let e = ends input in
     rw (e .0 .0, e .0 .1) (⊎-elim (λ h. rw h unstarted-contained) (λ b. rw (b .leaves) (containment present (asks (b .order) Start) _ (b .items) (b .reached))) (e .1))
 
--- ---- the lengths are right; and the bytes are sound and the order passes, once a start was granted
+-- ---- the lengths are right, the list's too; and the bytes are sound and the order passes, once a start was granted
 
 zeros-fit : lengthsFit zeros ≡ true
 unfolding lengthsFit zeros
@@ -225,6 +233,9 @@ ends-fit input =
     let e = ends input in
     rw (e .0 .0) (⊎-elim (λ h. rw h zeros-fit) (λ b. begun-fitted (calls input) b .lengths) (e .1))
 
+ends-listed : (input : List ℕ) → listFits present (atEnd input .tallies) ≡ true
+ends-listed input = ends input .0 .2
+
 -- ---- the report
 
 fitted-report : {o : Order} {m : Memory} {out : Outcome} → Fitted o m out → (x : ℕ) → x < numbers → isMarked (report o m) x ≡ marked m x
@@ -237,7 +248,7 @@ zeros-report x =
     let u : sound noOrder (zeros .bytes) ≡ false = not-so _ (λ h. zeros-unsound h) in
     rw (zeros-fit, u) (in-zeros rowSize x ∙ sym (zeros-unmarked x))
 
-end-report : (input : List ℕ) (x : ℕ) → x < numbers → isMarked (report (atEnd input .run .order) (atEnd input .memory)) x ≡ marked (atEnd input .memory) x
+end-report : (input : List ℕ) (x : ℕ) → x < numbers → isMarked (report (atEnd input .order) (atEnd input .memory)) x ≡ marked (atEnd input .memory) x
 end-report input x h =
     let e = ends input in
     rw (e .0 .0, e .0 .1) (⊎-elim (λ u. rw u (zeros-report x)) (λ b. fitted-report (begun-fitted (calls input) b) x h) (e .1))
@@ -260,4 +271,5 @@ pub over-sixteen : OverSixteen
 unfolding afterLine lineDone doneBy startedWith answered
 over-sixteen input l count rest e n h =
     let r = too-many-refused (tooMany (value count) .order) (atEnd input .memory) (ends-fit input) h in
-    rw (read-too-many l count rest e n h, r) (unfold refusal in refl)
+    let t = start-counted (tooMany (value count) .order) (atEnd input .memory) (atEnd input .tallies) (ends-listed input) r in
+    rw (read-too-many l count rest e n h, t) (unfold refusal in refl)

@@ -6,12 +6,14 @@ use Prim.Native.Nat.{ℕ}
 use lib.Dec.{eqb}
 use lib.ListN.{replicate}
 use Rattle.rows.specs.Size.{present, lentWords}
+use Rattle.levels.specs.declared.Order.{Order}
 use Rattle.records.specs.Records.{lentBytes}
+use Rattle.model.specs.declared.Tally.{Tally}
 use Rattle.model.specs.State.{Memory, memory}
 use Rattle.model.specs.Monitor.{report}
+use Rattle.model.specs.Tallies.{zeroed}
 use Rattle.script.specs.Script.{noOrder, into}
 use Rattle.script.specs.Print.{lineFeed, replyLine}
-use Rattle.trail.specs.declared.lines.Run.{Run}
 use Rattle.trail.specs.Lines.{lineDone}
 use Rattle.trail.specs.Marked.{markedLine}
 
@@ -22,29 +24,27 @@ unfoldable pub lines : List ℕ → List (List ℕ)
 lines [] = []
 lines (b ∷ bs) = cond (eqb b lineFeed) ([] ∷ lines bs) (into b (lines bs))
 
--- ---- how far a script has come: what it printed, what it keeps from line to line, and the memory
+-- ---- how far a script has come: what it printed, and what it keeps from line to line, the order of the last granted start, the memory and the tallies
 
 pub record Progress : Type 0 where
   pub printed : List ℕ
-  pub run : Run
+  pub order : Order
   pub memory : Memory
-
--- the order is all zero before the first granted start, and nothing is counted yet
-abbrev pub firstRun : Run
-firstRun = record { order = noOrder; tally = record { granted = 0; slipped = 0; refused = 0 } }
+  pub tallies : List Tally
 
 -- memory begins as zeros
 unfoldable pub zeros : Memory
 zeros = memory (replicate (lentBytes present) 0) (replicate (lentWords present) 0)
 
+-- the order is all zero before the first granted start, and nothing is counted yet
 unfoldable pub nothingRead : Progress
-nothingRead = record { printed = []; run = firstRun; memory = zeros }
+nothingRead = record { printed = []; order = noOrder; memory = zeros; tallies = zeroed present }
 
 -- a line, with the line that answers it
 unfoldable pub afterLine : List ℕ → Progress → Progress
 afterLine l p =
-    let out = lineDone (p .memory) (p .run) l in
-    record { printed = p .printed ++ replyLine (out .done .reply); run = out .done .run; memory = out .memory }
+    let out = lineDone (p .memory) (p .tallies) (p .order) l in
+    record { printed = p .printed ++ replyLine (out .done .reply); order = out .done .order; memory = out .memory; tallies = out .tallies }
 
 unfoldable pub afterLines : List (List ℕ) → Progress → Progress
 afterLines [] p = p
@@ -54,7 +54,7 @@ afterLines (l ∷ ls) p = afterLines ls (afterLine l p)
 
 -- last, the marked numbers
 unfoldable pub withMarked : Progress → List ℕ
-withMarked p = p .printed ++ markedLine (report (p .run .order) (p .memory))
+withMarked p = p .printed ++ markedLine (report (p .order) (p .memory))
 
 unfoldable pub atEnd : List ℕ → Progress
 atEnd input = afterLines (lines input) nothingRead

@@ -1,12 +1,13 @@
 // A script whose input comes in pieces. Each is fed as it comes, and what it prints stands in a buffer until it is written.
 use crate::lines;
-use crate::lines::Run;
 use crate::marked;
+use levels::Order;
 use script::print;
 ghost use Prim.Native.Nat.{_+_, _*_, _≤_};
 ghost use mathlib.Core.Path.{_≡_};
 ghost use lib.ListN.{length};
-ghost use Rattle.trail.specs.Script.{firstRun, afterLine};
+ghost use Rattle.script.specs.Script.{noOrder};
+ghost use Rattle.trail.specs.Script.{afterLine};
 ghost use Rattle.trail.specs.Feeding.{lineSize, afterPiece, lastLine, finished};
 ghost use Rattle.trail.specs.Buffers.{answerSize, markedSize, progressIn, readingIn};
 
@@ -15,7 +16,7 @@ pub const KEPT: usize = 128;
 
 // Where the reading stands.
 pub struct State {
-    pub run: Run,
+    pub order: Order,
     // How much of the open line is kept, and of the output is not written yet.
     pub filled: usize,
     pub used: usize,
@@ -23,17 +24,20 @@ pub struct State {
 
 // What is left by lines alone.
 pub struct Answered {
-    pub run: Run,
+    pub order: Order,
     pub used: usize,
 }
 
-// Before the first piece.
+// Before the first piece. The order is all zero before the first granted start.
 pub fn at_first() -> State
-    ensures { λ r. ⌜ r ≡ record { run = firstRun; filled = 0; used = 0 } ⌝ }
+    ensures { λ r. ⌜ r ≡ record { order = noOrder; filled = 0; used = 0 } ⌝ }
 {
-    let run = lines::at_first();
     State {
-        run,
+        order: Order {
+            rows: [0; 16],
+            count: 0,
+            top: 0,
+        },
         filled: 0,
         used: 0,
     }
@@ -41,11 +45,11 @@ pub fn at_first() -> State
 
 // What was printed has been written.
 pub fn emptied(state: State) -> State
-    ensures { λ r. ⌜ r ≡ record { run = state .run; filled = state .filled; used = 0 } ⌝ }
+    ensures { λ r. ⌜ r ≡ record { order = state .order; filled = state .filled; used = 0 } ⌝ }
 {
-    let run = state.run;
+    let order = state.order;
     State {
-        run,
+        order,
         filled: state.filled,
         used: 0,
     }
@@ -57,18 +61,19 @@ fn end_line(
     out: &mut [u8],
     bytes: &mut [u8],
     words: &mut [u64],
+    counts: &mut [u32],
     at: Answered,
 ) -> Answered
     requires { ⌜ at .used + answerSize ≤ length (now out) ⌝ }
-    ensures { λ r. ⌜ (progressIn (r .run) (r .used) (now (out .exit)) (now (bytes .exit)) (now (words .exit)) ≡ afterLine (now (line .entry)) (progressIn (at .run) (at .used) (now (out .entry)) (now (bytes .entry)) (now (words .entry))))
+    ensures { λ r. ⌜ (progressIn (r .order) (r .used) (now (out .exit)) (now (bytes .exit)) (now (words .exit)) (now (counts .exit)) ≡ afterLine (now (line .entry)) (progressIn (at .order) (at .used) (now (out .entry)) (now (bytes .entry)) (now (words .entry)) (now (counts .entry))))
         × (r .used ≤ at .used + answerSize) ⌝ }
 {
-    let before = at.run;
-    let done = lines::do_line(line, bytes, words, before);
+    let before = at.order;
+    let done = lines::do_line(line, bytes, words, counts, before);
     let reply = done.reply;
     let used = print::answer(out, at.used, reply);
-    let run = done.run;
-    Answered { run, used }
+    let order = done.order;
+    Answered { order, used }
 }
 
 // Feeds a piece. Its answers fit: each answers a line, which has at least its line feed, with at most eight bytes.
@@ -78,15 +83,16 @@ pub fn feed(
     out: &mut [u8],
     bytes: &mut [u8],
     words: &mut [u64],
+    counts: &mut [u32],
     from: State,
 ) -> State
     requires { ⌜ (length (now line) ≡ lineSize) × (from .filled ≤ lineSize) × (from .used + answerSize * length (now piece) ≤ length (now out)) ⌝ }
-    ensures { λ r. ⌜ (readingIn r (now (line .exit)) (now (out .exit)) (now (bytes .exit)) (now (words .exit)) ≡ afterPiece (now (piece .entry)) (readingIn from (now (line .entry)) (now (out .entry)) (now (bytes .entry)) (now (words .entry))))
+    ensures { λ r. ⌜ (readingIn r (now (line .exit)) (now (out .exit)) (now (bytes .exit)) (now (words .exit)) (now (counts .exit)) ≡ afterPiece (now (piece .entry)) (readingIn from (now (line .entry)) (now (out .entry)) (now (bytes .entry)) (now (words .entry)) (now (counts .entry))))
         × (r .filled ≤ lineSize) × (r .used ≤ length (now (out .exit))) ⌝ }
 {
-    let run = from.run;
+    let order = from.order;
     let mut at = Answered {
-        run,
+        order,
         used: from.used,
     };
     let mut filled = from.filled;
@@ -95,7 +101,7 @@ pub fn feed(
         let b = piece[i];
         i += 1;
         if b == b'\n' {
-            at = end_line(&line[..filled], out, bytes, words, at);
+            at = end_line(&line[..filled], out, bytes, words, counts, at);
             filled = 0;
             continue;
         }
@@ -105,9 +111,9 @@ pub fn feed(
         line[filled] = b;
         filled += 1;
     }
-    let run = at.run;
+    let order = at.order;
     State {
-        run,
+        order,
         filled,
         used: at.used,
     }
@@ -119,16 +125,17 @@ fn last_line(
     out: &mut [u8],
     bytes: &mut [u8],
     words: &mut [u64],
+    counts: &mut [u32],
     at: Answered,
 ) -> Answered
     requires { ⌜ at .used + answerSize ≤ length (now out) ⌝ }
-    ensures { λ r. ⌜ (progressIn (r .run) (r .used) (now (out .exit)) (now (bytes .exit)) (now (words .exit)) ≡ lastLine (now (line .entry)) (progressIn (at .run) (at .used) (now (out .entry)) (now (bytes .entry)) (now (words .entry))))
+    ensures { λ r. ⌜ (progressIn (r .order) (r .used) (now (out .exit)) (now (bytes .exit)) (now (words .exit)) (now (counts .exit)) ≡ lastLine (now (line .entry)) (progressIn (at .order) (at .used) (now (out .entry)) (now (bytes .entry)) (now (words .entry)) (now (counts .entry))))
         × (r .used ≤ at .used + answerSize) ⌝ }
 {
     if line.len() == 0 {
         return at;
     }
-    end_line(line, out, bytes, words, at)
+    end_line(line, out, bytes, words, counts, at)
 }
 
 // The input is at its end: the last line, then the marked numbers.
@@ -137,21 +144,21 @@ pub fn finish(
     out: &mut [u8],
     bytes: &mut [u8],
     words: &mut [u64],
+    counts: &mut [u32],
     from: State,
 ) -> Answered
     requires { ⌜ (from .filled ≤ length (now line)) × (from .used + (answerSize + markedSize) ≤ length (now out)) ⌝ }
-    ensures { λ r. ⌜ (progressIn (r .run) (r .used) (now (out .exit)) (now (bytes .exit)) (now (words .exit)) ≡ finished (readingIn from (now (line .entry)) (now (out .entry)) (now (bytes .entry)) (now (words .entry))))
+    ensures { λ r. ⌜ (progressIn (r .order) (r .used) (now (out .exit)) (now (bytes .exit)) (now (words .exit)) (now (counts .exit)) ≡ finished (readingIn from (now (line .entry)) (now (out .entry)) (now (bytes .entry)) (now (words .entry)) (now (counts .entry))))
         × (r .used ≤ length (now (out .exit))) ⌝ }
 {
-    let run = from.run;
+    let order = from.order;
     let filled = from.filled;
     let at = Answered {
-        run,
+        order,
         used: from.used,
     };
-    let last = last_line(&line[..filled], out, bytes, words, at);
-    let order = last.run.order;
+    let last = last_line(&line[..filled], out, bytes, words, counts, at);
+    let order = last.order;
     let used = marked::print(out, last.used, marking::report(bytes, words, order));
-    let run = last.run;
-    Answered { run, used }
+    Answered { order, used }
 }

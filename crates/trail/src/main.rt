@@ -11,7 +11,10 @@ ghost use Prim.Native.Nat.{_≤_};
 ghost use mathlib.Core.Path.{_≡_};
 ghost use mathlib.Core.Bool.{true};
 ghost use lib.ListN.{length, take};
+ghost use Rattle.rows.specs.Size.{present};
 ghost use Rattle.model.specs.State.{memory};
+ghost use Rattle.model.specs.Tallies.{zeroed};
+ghost use Rattle.tallies.specs.Counts.{recordsIn};
 ghost use Rattle.trail.specs.Script.{zeros};
 ghost use Rattle.trail.specs.Feeding.{lineSize, afterPiece, emptied};
 ghost use Rattle.trail.specs.Buffers.{Sized, readingIn, SomeInput, SomeScript};
@@ -20,6 +23,9 @@ ghost use Rattle.trail.specs.Buffers.{Sized, readingIn, SomeInput, SomeS
 const IN: usize = 16384;
 
 const OUT: usize = 131072;
+
+// The list of tallies: a record for each number, three counts to a record.
+const TALLIES: usize = 3 * records::RECORDS;
 
 // What a turn comes to: how much of the input buffer was fed, whether more may be read, and whether no read and no write has failed.
 struct Turn {
@@ -50,10 +56,11 @@ fn read_piece(
     out: &mut [u8],
     bytes: &mut [u8],
     words: &mut [u64],
+    counts: &mut [u32],
     state: State,
 ) -> Turn
     requires { ⌜ Sized (now input) (now line) (now out) × (state .filled ≤ lineSize) × (state .used ≡ 0) ⌝ }
-    ensures { λ r. ⌜ (readingIn (r .state) (now (line .exit)) (now (out .exit)) (now (bytes .exit)) (now (words .exit)) ≡ emptied (afterPiece (take (r .fed) (now (input .exit))) (readingIn state (now (line .entry)) (now (out .entry)) (now (bytes .entry)) (now (words .entry)))))
+    ensures { λ r. ⌜ (readingIn (r .state) (now (line .exit)) (now (out .exit)) (now (bytes .exit)) (now (words .exit)) (now (counts .exit)) ≡ emptied (afterPiece (take (r .fed) (now (input .exit))) (readingIn state (now (line .entry)) (now (out .entry)) (now (bytes .entry)) (now (words .entry)) (now (counts .entry)))))
         × (r .state .filled ≤ lineSize) × (r .state .used ≡ 0) ⌝ }
 {
     let got = libc::read(STDIN_FILENO, input);
@@ -69,7 +76,7 @@ fn read_piece(
         };
     }
     let n = io::count(got, input);
-    let next = feeding::feed(&input[..n], line, out, bytes, words, state);
+    let next = feeding::feed(&input[..n], line, out, bytes, words, counts, state);
     let used = next.used;
     let ok = write_out(&out[..used]);
     Turn {
@@ -88,9 +95,10 @@ fn read_all(
     out: &mut [u8],
     bytes: &mut [u8],
     words: &mut [u64],
+    counts: &mut [u32],
 ) -> Turn
-    requires { ⌜ Sized (now input) (now line) (now out) × (memory (now bytes) (now words) ≡ zeros) ⌝ }
-    ensures { λ r. ⌜ SomeInput (readingIn (r .state) (now (line .exit)) (now (out .exit)) (now (bytes .exit)) (now (words .exit)))
+    requires { ⌜ Sized (now input) (now line) (now out) × (memory (now bytes) (now words) ≡ zeros) × (recordsIn (now counts) ≡ zeroed present) ⌝ }
+    ensures { λ r. ⌜ SomeInput (readingIn (r .state) (now (line .exit)) (now (out .exit)) (now (bytes .exit)) (now (words .exit)) (now (counts .exit)))
         × (r .state .filled ≤ lineSize) × (r .state .used ≡ 0) ⌝ }
 {
     let mut last = Turn {
@@ -102,7 +110,7 @@ fn read_all(
     let mut turns = u64::MAX;
     while turns > 0 && last.more {
         let state = last.state;
-        last = read_piece(input, line, out, bytes, words, state);
+        last = read_piece(input, line, out, bytes, words, counts, state);
         turns -= 1;
     }
     last
@@ -115,17 +123,18 @@ fn run(
     out: &mut [u8],
     bytes: &mut [u8],
     words: &mut [u64],
+    counts: &mut [u32],
 ) -> Ended
-    requires { ⌜ Sized (now input) (now line) (now out) × (memory (now bytes) (now words) ≡ zeros) ⌝ }
-    ensures { λ r. ⌜ (r .ok ≡ true → SomeScript (r .used) (now (out .exit)) (now (bytes .exit)) (now (words .exit)))
+    requires { ⌜ Sized (now input) (now line) (now out) × (memory (now bytes) (now words) ≡ zeros) × (recordsIn (now counts) ≡ zeroed present) ⌝ }
+    ensures { λ r. ⌜ (r .ok ≡ true → SomeScript (r .used) (now (out .exit)) (now (bytes .exit)) (now (words .exit)) (now (counts .exit)))
         × (r .used ≤ length (now (out .exit))) ⌝ }
 {
-    let last = read_all(input, line, out, bytes, words);
+    let last = read_all(input, line, out, bytes, words, counts);
     if !last.ok {
         return Ended { used: 0, ok: false };
     }
     let state = last.state;
-    let end = feeding::finish(line, out, bytes, words, state);
+    let end = feeding::finish(line, out, bytes, words, counts, state);
     Ended {
         used: end.used,
         ok: true,
@@ -135,10 +144,18 @@ fn run(
 fn main() {
     let mut bytes = [0u8; records::BYTES];
     let mut words = [0u64; rows::WORDS];
+    let mut counts = [0u32; TALLIES];
     let mut input = [0u8; IN];
     let mut line = [0u8; feeding::KEPT];
     let mut out = [0u8; OUT];
-    let end = run(&mut input, &mut line, &mut out, &mut bytes, &mut words);
+    let end = run(
+        &mut input,
+        &mut line,
+        &mut out,
+        &mut bytes,
+        &mut words,
+        &mut counts,
+    );
     if end.ok {
         let used = end.used;
         write_out(&out[..used]);

@@ -10,13 +10,13 @@ use Rattle.trail.proofs.feeding.end_line.Tie as tie
 returns : tie.Need-returns
 returns c =
     let p = c .before .before .before in
-    let d = p .before .before .before .before .before .before in
-    let a = d .before .before .before .before .before .before .before .before .args in (
-      line-answered (progressIn (a .at .run) (a .at .used) (a .out .now) (a .bytes .now) (a .words .now)) (a .line .now) (d .do-line .ensures) refl (p .answer .ensures) refl (omega arith),
+    let d = p .before .before .before .before .before .before .before .before in
+    let a = d .before .before .before .before .before .before .before .before .before .before .args in (
+      line-answered (progressIn (a .at .order) (a .at .used) (a .out .now) (a .bytes .now) (a .words .now) (a .counts .now)) (a .line .now) _ (d .do-line .ensures) refl (p .answer .ensures) refl (omega arith),
       omega (arith, reply-within _ (p .answer .ensures)),
     )
 
 pub end-line-spec : {M : Type 1} → statement M
 end-line-spec =
     tie.close
-    (tie.spec (λ c κs. search needs) (λ c κs. search needs) (λ c. search needs) (λ c. search needs) (λ c. search needs) returns)
+    (tie.spec (λ c κs. search needs) (λ c κs. search needs) (λ c. search needs) (λ c. search needs) (λ c. search needs) (λ c. search needs) returns)

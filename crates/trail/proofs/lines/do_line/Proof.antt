@@ -7,25 +7,23 @@ use Rattle.trail.proofs.lines.do_line.Tie as tie
 
 returns : tie.Need-returns
 unfolding doneBy
-returns c = sym (line-is _ _ _ (c .before .before .read-line .ensures) (c .enum-told .given .1))
+returns c = sym (line-is _ _ _ _ (c .before .before .read-line .ensures) (c .enum-told .given .1))
 
 returns-2 : tie.Need-returns-2
 unfolding doneBy
 returns-2 c =
-    let s = c .before .before .before .before in
-    let t = s .before .before .before .before in
-    s .start .ensures ∙ sym (line-is _ _ _ (t .before .before .read-line .ensures) (t .enum-told2 .given .1))
+    let s = c .before .before .before .before .before .before in
+    let t = s .before .before .before .before .before in
+    s .start .ensures ∙ sym (line-is _ _ _ _ (t .before .before .read-line .ensures) (t .enum-told2 .given .1))
 
 returns-3 : tie.Need-returns-3
 unfolding doneBy
 returns-3 c =
-    let s = c .before .before .before .before in
-    let t = s .before .before .before .before in
-    s .ask .ensures ∙ sym (line-is _ _ _ (t .before .before .read-line .ensures) (t .kind .given .1))
+    let s = c .before .before .before .before .before .before in
+    let t = s .before .before .before .before .before in
+    s .ask .ensures ∙ sym (line-is _ _ _ _ (t .before .before .read-line .ensures) (t .kind .given .1))
 
 pub do-line-spec : {M : Type 1} → statement M
 do-line-spec =
     tie.close
-    (tie.spec (λ c κs. search needs) (λ c. search needs) (λ c. search needs) (λ c κs. search needs)
-    (λ c. search needs) (λ c κs. search needs) returns (λ c. search needs) (λ c. search needs) returns-2 (λ c. search needs)
-    (λ c. search needs) returns-3)
+    (tie.spec (λ c κs. search needs) (λ c. search needs) (λ c. search needs) (λ c κs. search needs) (λ c. search needs) (λ c κs. search needs) returns (λ c. search needs) (λ c. search needs) (λ c. search needs) returns-2 (λ c. search needs) (λ c. search needs) (λ c. search needs) returns-3)

@@ -5,7 +5,8 @@ use borrow.Author.Needs.{needs}
 use Rattle.model.specs.declared.Call.the-variants.{Start}
 use Rattle.model.specs.State.{memory}
 use Rattle.model.specs.Verdicts.{granted}
-use Rattle.model.specs.Monitor.{perform}
+use Rattle.model.specs.Tallies.{performed}
+use Rattle.tallies.specs.Counts.{recordsIn}
 use Rattle.script.specs.declared.print.Reply.the-variants.{Verdict}
 use Rattle.trail.specs.Lines.{startedWith}
 use Rattle.trail.specs.LinesLaws.{answered-is, granted-order, refused-order}
@@ -15,20 +16,20 @@ use Rattle.trail.proofs.lines.start.Tie as tie
 returns : tie.Need-returns
 unfolding startedWith
 returns c =
-    let p = c .before .before .before .before .before .before in
-    let a = p .before .before .before .before .before .before .args in
-    answered-is (perform (a .order) (memory (a .bytes .now) (a .words .now)) Start) (λ v n. Verdict v) (λ v. cond (eqb v granted) (a .order) (a .run .order)) (a .run .tally)
-    (p .perform .ensures .0) (p .perform .ensures .1) refl (granted-order (a .order) (a .run .order) (c .if1 .taken))
+    let p = c .before .before .before .before .before .before .before in
+    let a = p .before .before .before .before .before .before .before .args in
+    answered-is (performed (a .order) (memory (a .bytes .now) (a .words .now)) (recordsIn (a .counts .now)) Start) (λ v n. Verdict v) (λ v. cond (eqb v granted) (a .order) (a .kept)) _ (p .perform .ensures)
+    refl (granted-order (a .order) (a .kept) (c .if1 .taken))
 
 returns-2 : tie.Need-returns-2
 unfolding startedWith
 returns-2 c =
     let p = c .before .before .before .before .before .before .before in
-    let a = p .before .before .before .before .before .before .args in
-    answered-is (perform (a .order) (memory (a .bytes .now) (a .words .now)) Start) (λ v n. Verdict v) (λ v. cond (eqb v granted) (a .order) (a .run .order)) (a .run .tally)
-    (p .perform .ensures .0) (p .perform .ensures .1) refl (refused-order (a .order) (a .run .order) (c .before .if1 .left))
+    let a = p .before .before .before .before .before .before .before .args in
+    answered-is (performed (a .order) (memory (a .bytes .now) (a .words .now)) (recordsIn (a .counts .now)) Start) (λ v n. Verdict v) (λ v. cond (eqb v granted) (a .order) (a .kept)) _ (p .perform .ensures)
+    refl (refused-order (a .order) (a .kept) (c .if1 .left))
 
 pub start-spec : {M : Type 1} → statement M
 start-spec =
     tie.close
-    (tie.spec (λ c κs. search needs) (λ c. search needs) (λ c. search needs) returns (λ c. search needs) (λ c. search needs) returns-2)
+    (tie.spec (λ c κs. search needs) (λ c. search needs) (λ c. search needs) (λ c. search needs) returns (λ c. search needs) (λ c. search needs) (λ c. search needs) returns-2)
