@@ -29,6 +29,7 @@ use denote.Ref.{RefT}
 use denote.Slice.{sliceTy, sliceVal, MutSlice, Room, finally}
 use denote.Steps.{only, owned, peeks, heard, nothing}
 use denote.Struct.Laws as LL
+use denote.Triple.Entry.{onEntry}
 use denote.Triple.Spec.{tripleOf}
 use denote.Triple.Statement.{Contract, Triple}
 use denote.Triple.Call.{calls-at}
@@ -40,6 +41,7 @@ use Rattle.tallies.specs.declared.Entry.{Entry}
 use Rattle.tallies.specs.Entries.{Fitting, enteredAs}
 use Rattle.levels.proofs.Order.Laws as O′
 use Rattle.model.proofs.Tally as T
+use Rattle.model.proofs.Tally.Laws as T′
 use Rattle.model.proofs.Answer as N
 use Rattle.model.proofs.Answer.Laws as N′
 use Rattle.tallies.proofs.Entry as R
@@ -85,7 +87,7 @@ body callee =
     (seq (assign (place 10 []) (aggregate (copy (place 9 []) ∷ copy (place 2 (field 1 ∷ [])) ∷ [])))
     (seq (assign (place 11 []) (rvOpd (copy (place 3 (field 1 ∷ [])))))
     (seq (call callee (copy (place 8 []) ∷ copy (place 10 []) ∷ copy (place 11 []) ∷ copy (place 4 []) ∷ copy (place 5 []) ∷ []) (place 6 []))
-    (seq (assign (place 13 []) (addrOf (place 3 (field 0 ∷ deref (pointee (T.the-row .written)) ∷ []))))
+    (seq (assign (place 13 []) (addrOf (place 3 (field 0 ∷ deref T′.mir ∷ []))))
     (seq (assign (place 14 []) (aggregate (copy (place 13 []) ∷ copy (place 3 (field 1 ∷ [])) ∷ [])))
     (seq (call #tallies·enter (copy (place 14 []) ∷ copy (place 6 []) ∷ []) (place 12 []))
     (seq (assign (place 0 []) (rvOpd (copy (place 6 (field 0 ∷ []))))) return)))))))))
@@ -119,7 +121,7 @@ Entered 𝓤 H A mem run = tripleOf 𝓤 H A entering.signature (entering.spec �
 
 module _ {M : Type 1} (𝓤 : URA M) (H : Heap 𝓤) (A : Atoms 𝓤) (W : Given 𝓤 H A) (mem : Memory → SProp 𝓤) (run : Routine → Fun 𝓤) (κ₀ κ₁ κ₂ : Lft) (q₀ q₁ q₂ : Share) (more : Item 𝓤)
     (x₀ x₁ : RefT (List ℕ)) (x₂ : RefT (List Tally)) (mo mk : Val) (rest : Fml) (Did : Entry → List ℕ → List ℕ → Type 0) (Told : Entry → List ℕ → List ℕ → List Tally → Type 0)
-    (fits : {r : Entry} {xs ys : List ℕ} → Did r xs ys → Fitting r) (sums : {r : Entry} {xs ys : List ℕ} {zs : List Tally} → Did r xs ys → zs ≡ enteredAs r (x₂ .now) → Told r xs ys zs) where
+    (fits : (r : Entry) (xs ys : List ℕ) → Did r xs ys → Fitting r) (sums : (r : Entry) (xs ys : List ℕ) (zs : List Tally) → Did r xs ys → zs ≡ enteredAs r (x₂ .now) → Told r xs ys zs) where
   abbrev s₀ : Val
   s₀ = sliceVal (x₀ .ptr) (length (x₀ .now))
 
@@ -182,8 +184,8 @@ module _ {M : Type 1} (𝓤 : URA M) (H : Heap 𝓤) (A : Atoms 𝓤) (W : Given
 
   goes-enter : (r : Entry) → Fitting r → Is R.the-row r (me r ∷ []) → ent 𝓤 (sep 𝓤 (A .lft κ₂ q₂) (sem 𝓤 H A (MutSlice (named 0) κ₂ T.the-row .own x₂ (s₂ ∷ [])))) (Entered 𝓤 H A mem run .pre (to-enter r))
   goes-enter r f is =
-      qed W (‵ (flft κ₂ q₂) ∷ ‵ (MutSlice (named 0) κ₂ T.the-row .own x₂ (s₂ ∷ [])) ∷ []) ∵ says ! f $ nothing ! $ move ! (1 ∷ 0 ∷ []) $ join ! $
-      nothing ! $ owned ! R.the-row (Is R.the-row) (LL.makes R.the-type R′.the-plain 𝓤 H A) r _ is $ fjoin ! $ move ! (2 ∷ 0 ∷ []) $ fjoin ! $ move ! (1 ∷ 0 ∷ []) $ join ! $ frame ! $ done !
+      qed W (‵ (flft κ₂ q₂) ∷ ‵ (MutSlice (named 0) κ₂ T.the-row .own x₂ (s₂ ∷ [])) ∷ []) ∵ says ! {φ = Fitting r} {P = onEntry 𝓤 H A entering.signature (κ₂, tt) (q₂, tt) (x₂, (r, tt)) (s₂ ∷ [], (me r ∷ [], tt))} f $ nothing ! $ move ! (1 ∷ 0 ∷ []) $ join ! $
+      nothing ! $ owned ! R.the-row (Is R.the-row) (LL.makes R.the-type R′.the-plain 𝓤 H A) r _ is $ fjoin ! $ move ! (2 ∷ 0 ∷ []) $ fjoin ! $ move ! (1 ∷ 0 ∷ []) $ frame ! $ done !
 
   abbrev entered : Val → Entry → Item 𝓤
   entered w r = later (some (λ (u : Unit {0}). ((‵ (flft κ₂ q₂) ⊛ ‵ ftrue) ⊛ ‵ (unit .own u (w ∷ []))) ⊛ raw (ensured 𝓤 H A entering.ended (entering.clauses 𝓤 H A mem run) (κ₂, tt) (x₂, (r, tt)) tt u)))
@@ -243,7 +245,7 @@ module _ {M : Type 1} (𝓤 : URA M) (H : Heap 𝓤) (A : Atoms 𝓤) (W : Given
         assigns ! (addr ! (from ! (fld ! refl (hop ! (look-in ! 29 (sub ! 0 refl (whole !))) (stop !))))) (from ! (stop !)) (init ! 9 refl (tt, tt)) $
         assigns ! (agg ! (and-then ! (load ! (from ! (stop !)) (look ! 9 refl)) (and-then ! (load ! (from ! (fld ! refl (stop !))) (look-in ! 29 (sub ! 1 refl (whole !)))) (no-more !)))) (from ! (stop !)) (init ! 7 refl (tt, (tt, (record { fits = room₂ .0 }, tt)))) $
         -- `enter`
-        move ! (5 ∷ 6 ∷ []) $ use2 W (raw (Entered 𝓤 H A mem run .pre (to-enter r))) (goes-enter r (fits e) (entry-is r w is)) $
+        move ! (5 ∷ 6 ∷ []) $ use2 W (raw (Entered 𝓤 H A mem run .pre (to-enter r))) (goes-enter r (fits r (zs .0) (zs .1 .0) e) (entry-is r w is)) $
         -- [the pre; the entry's; the tokens; the last words; true; the last bytes; _14 at 6; …]
         calls-at ! fm (Entered 𝓤 H A mem run) known-enter (to-enter r) (and-then ! (load ! (from ! (stop !)) (look ! 6 refl)) (and-then ! (load ! (from ! (stop !)) (look ! 22 refl)) (no-more !))) (λ w₂.
         use1 W (entered w₂ r) (id⊢ 𝓤 _) $ await ! tt $ pick ! (λ u.
@@ -254,4 +256,4 @@ module _ {M : Type 1} (𝓤 : URA M) (H : Heap 𝓤) (A : Atoms 𝓤) (W : Given
         assigns ! (of-opd ! (load ! (from ! (fld ! refl (stop !))) (look-in ! 24 (sub ! 0 refl (whole !))))) (from ! (stop !)) (init ! 36 refl (LL.lawful N.the-type N′.the-laws 𝓤 H A W .typed (r .answer) _ (answer-is r w is) .0)) $
         returns ! (look ! 36 refl) $ forget ! 8 refl $ forget ! 10 refl $ forget ! 12 refl $ forget ! 14 refl $ forget ! 16 refl $ forget ! 18 refl $ forget ! 20 refl $ forget ! 22 refl $ forget ! 24 refl $ forget ! 26 refl $ forget ! 28 refl $ forget ! 30 refl $ forget ! 32 refl $ forget ! 34 refl $ forget ! 36 refl $
         move ! (36 ∷ 37 ∷ []) $ free1 ! $ move ! (34 ∷ 35 ∷ []) $ free1 ! $ move ! (32 ∷ 33 ∷ []) $ free1 ! $ move ! (30 ∷ 31 ∷ []) $ free1 ! $ move ! (28 ∷ 29 ∷ []) $ free1 ! $ move ! (26 ∷ 27 ∷ []) $ free1 ! $ move ! (24 ∷ 25 ∷ []) $ free1 ! $ move ! (22 ∷ 23 ∷ []) $ free1 ! $ move ! (20 ∷ 21 ∷ []) $ free1 ! $ move ! (18 ∷ 19 ∷ []) $ free1 ! $ move ! (16 ∷ 17 ∷ []) $ free1 ! $ move ! (14 ∷ 15 ∷ []) $ free1 ! $ move ! (12 ∷ 13 ∷ []) $ free1 ! $ move ! (10 ∷ 11 ∷ []) $ free1 ! $ move ! (8 ∷ 9 ∷ []) $ free1 ! $ free0 ! $
-        keep ! (0 ∷ 4 ∷ 7 ∷ 5 ∷ 1 ∷ []) $ by ! (via 𝓤 _ (leaves r (zs .0) (zs .1 .0) (ls .0) (sums e e₂) (answer-is r w is)) (ends r (zs .0) (zs .1 .0) (ls .0) lx ly lz))))))))))))))))))))))))))
+        keep ! (0 ∷ 4 ∷ 7 ∷ 5 ∷ 1 ∷ []) $ by ! (via 𝓤 _ (leaves r (zs .0) (zs .1 .0) (ls .0) (sums r (zs .0) (zs .1 .0) (ls .0) e e₂) (answer-is r w is)) (ends r (zs .0) (zs .1 .0) (ls .0) lx ly lz))))))))))))))))))))))))))))))

@@ -119,14 +119,14 @@ fn plain(verdict: u8) -> Answer
     Answer { verdict, rounds: 0 }
 }
 
-// The entry of a start, of a load, and of a call refused with 2 or 3: a granted one zeroes the list.
-fn on_record_0(verdict: u8) -> Entry
+// The entry on the first record, of a start, of a load, and of a call refused with 2 or 3: a granted one zeroes the list.
+fn on_first(verdict: u8) -> Entry
     ensures { λ r. ⌜ (r .answer .verdict ≡ verdict) × (r .answer .rounds ≡ 0) × Enters r 0 (eqb verdict granted) × Fitting r ⌝ }
 {
     let answer = plain(verdict);
     Entry {
         answer,
-        record: 0,
+        number: 0,
         anew: verdict == model::GRANTED,
     }
 }
@@ -182,19 +182,19 @@ fn carry_out(bytes: &mut [u8], words: &mut [u64], order: Order, call: Call) -> E
         × Enters r (countedOn (memory (now (bytes .entry)) (now (words .entry))) call (r .answer .verdict)) (isStart call && eqb (r .answer .verdict) granted) × Fitting r ⌝ }
 {
     if let Call::Start = call {
-        return on_record_0(start(bytes, words, order));
+        return on_first(start(bytes, words, order));
     }
     if !fits(bytes, words, order) {
-        return on_record_0(model::STATE);
+        return on_first(model::STATE);
     }
     if !levels::order_passes(order) {
-        return on_record_0(model::ORDER);
+        return on_first(model::ORDER);
     }
-    let record = tallies::asker(bytes, call);
+    let number = tallies::asker(bytes, call);
     let answer = event(bytes, words, order, call);
     Entry {
         answer,
-        record,
+        number,
         anew: false,
     }
 }
@@ -205,7 +205,7 @@ fn call_lent(bytes: &mut [u8], words: &mut [u64], lent: usize, order: Order, cal
         × Enters r (countedOn (memory (now (bytes .entry)) (now (words .entry))) call (r .answer .verdict)) (isStart call && eqb (r .answer .verdict) granted) × Fitting r ⌝ }
 {
     if lent != records::RECORDS {
-        return on_record_0(model::STATE);
+        return on_first(model::STATE);
     }
     carry_out(bytes, words, order, call)
 }
@@ -297,9 +297,9 @@ fn load_lent(
         × Enters r 0 (eqb (r .answer .verdict) granted) × Fitting r ⌝ }
 {
     if lent != records::RECORDS {
-        return on_record_0(model::STATE);
+        return on_first(model::STATE);
     }
-    on_record_0(load(bytes, words, order, text))
+    on_first(load(bytes, words, order, text))
 }
 
 // A whole load over the lent list, as C and Rust call it.

@@ -11,12 +11,12 @@ use Rattle.tallies.specs.declared.Entry.{Entry}
 
 -- its record is one of a list of the right length
 abbrev pub Fitting : Entry → Type 0
-Fitting n = n .record < numbers
+Fitting n = n .number < numbers
 
 -- it counts on record i, and the list begins anew, or not
 abbrev pub Enters : Entry → ℕ → Bool → Type 0
-Enters n i anew = (n .record ≡ i) × (n .anew ≡ anew)
+Enters n i anew = (n .number ≡ i) × (n .anew ≡ anew)
 
 -- zeroed if it begins anew, then one record raised; a list of another length stays as it is
 unfoldable pub enteredAs : Entry → List Tally → List Tally
-enteredAs n ts = cond (listFits present ts) (raisedAt (n .record) (n .answer .verdict) (cond (n .anew) (zeroed present) ts)) ts
+enteredAs n ts = cond (listFits present ts) (raisedAt (n .number) (n .answer .verdict) (cond (n .anew) (zeroed present) ts)) ts

@@ -47,18 +47,18 @@ module _ (n : Entry) (ts : List Tally) where
   unfolding enteredAs listFits
   unfit-kept h = rw (ne-eqb _ _ h)
 
-  pub fit-entered : length ts ≡ numbers → raisedAt (n .record) (n .answer .verdict) (firstZeroed (boolByte (n .anew) * numbers) ts) ≡ enteredAs n ts
+  pub fit-entered : length ts ≡ numbers → raisedAt (n .number) (n .answer .verdict) (firstZeroed (boolByte (n .anew) * numbers) ts) ≡ enteredAs n ts
   unfolding enteredAs listFits
-  fit-entered e = ap (raisedAt (n .record) (n .answer .verdict)) (zeroed-or-kept (n .anew) ts e) ∙ rw (eq-eqb _ _ e)
+  fit-entered e = ap (raisedAt (n .number) (n .answer .verdict)) (zeroed-or-kept (n .anew) ts e) ∙ rw (eq-eqb _ _ e)
 
 -- ---- an outcome that a list of another length refuses, and its entry in the list. Which record counts, and whether the list begins anew, goes by the verdict
 
 module _ (m : Memory) (ts : List Tally) (out given : Outcome) (n : Entry) (on : ℕ → ℕ) (anew : ℕ → Bool) where
-  in-its-list : given ≡ out → n .answer .verdict ≡ given .verdict → Enters n (on (n .answer .verdict)) (anew (n .answer .verdict)) → tallied given (raisedAt (n .record) (n .answer .verdict) (cond (n .anew) (zeroed present) ts)) ≡ counted (anew (out .verdict)) (on (out .verdict)) ts out
+  in-its-list : given ≡ out → n .answer .verdict ≡ given .verdict → Enters n (on (n .answer .verdict)) (anew (n .answer .verdict)) → tallied given (raisedAt (n .number) (n .answer .verdict) (cond (n .anew) (zeroed present) ts)) ≡ counted (anew (out .verdict)) (on (out .verdict)) ts out
   unfolding counted
   in-its-list g v s =
       let w : n .answer .verdict ≡ out .verdict = v ∙ ap (λ (a : Outcome). a .verdict) g in
-      let r : n .record ≡ on (out .verdict) = s .0 ∙ ap on w in
+      let r : n .number ≡ on (out .verdict) = s .0 ∙ ap on w in
       let z = ap (λ (y : Bool). cond y (zeroed present) ts) (s .1 ∙ ap anew w) in
       λ i. tallied (g i) (raisedAt (r i) (w i) (z i))
 

@@ -17,10 +17,10 @@ use model::Tally;
 // How many counts a record has, where a list is lent as plain numbers.
 const COUNTS: usize = 3;
 
-// What a call answers, the record that counts it, and whether the list begins anew: it is then zeroed first.
+// What a call answers, the number whose record counts it, and whether the list begins anew: it is then zeroed first.
 pub struct Entry {
     pub answer: Answer,
-    pub record: u16,
+    pub number: u16,
     pub anew: bool,
 }
 
@@ -113,10 +113,10 @@ pub fn enter(tallies: &mut [Tally], entry: Entry)
         };
         i += 1;
     }
-    let record = entry.record as usize;
-    let before = tallies[record];
+    let number = entry.number as usize;
+    let before = tallies[number];
     let after = raise(before, entry.answer.verdict);
-    tallies[record] = after;
+    tallies[number] = after;
 }
 
 // How many records a list of plain numbers holds, three numbers to a record.
@@ -168,6 +168,6 @@ pub fn enter_counts(counts: &mut [u32], entry: Entry)
         return;
     }
     zero_counts(counts, entry.anew as usize * records::RECORDS);
-    let record = entry.record as usize;
-    raise_counts(counts, record, entry.answer.verdict);
+    let number = entry.number as usize;
+    raise_counts(counts, number, entry.answer.verdict);
 }

@@ -1,121 +1,71 @@
 use borrow.Author.Needs.{needs}
+use Rattle.model.specs.State.{memory}
+use Rattle.monitor.proofs.Rows.{ready, no-start}
+use Rattle.monitor.proofs.Entering.{start-entry, state-entry, order-entry, event-entry}
 use Rattle.monitor.proofs.carry_out.Statement.{statement}
 use Rattle.monitor.proofs.carry_out.Tie as tie
-use Rattle.monitor.proofs.carry_out.Reads as reads
-use Rattle.monitor.proofs.carry_out.Lts as lts
-use Rattle.levels.proofs.order_passes.Reads as order-passes-reads
-use Rattle.monitor.proofs.event.Reads as event-reads
-use Rattle.monitor.proofs.fits.Reads as fits-reads
-use Rattle.monitor.proofs.on_record_0.Reads as on-record-0-reads
-use Rattle.monitor.proofs.start.Reads as start-reads
-use Rattle.tallies.proofs.asker.Reads as asker-reads
 
--- src/lib.rt:185:34
-enum-told : tie.Need-enum-told
-enum-told c = search needs
-
--- src/lib.rt:185:28
-start-requires : tie.Need-start-requires
-start-requires c κs = search needs
-
--- src/lib.rt:185:9
-on-record-0-requires : tie.Need-on-record-0-requires
-on-record-0-requires c κs = search needs
-
--- src/lib.rt:185:9
-same-length : tie.Need-same-length
-same-length c = search needs
-
--- src/lib.rt:185:9
-same-length-2 : tie.Need-same-length-2
-same-length-2 c = search needs
-
--- src/lib.rt:185:9
 returns : tie.Need-returns
-returns c = ?
+returns c =
+    let s : tie.Start = search in
+    let t : tie.After-enum-told = search in
+    let b : tie.After-start = search in
+    let z : tie.After-on-first = search in
+    start-entry (s .args .order) (memory (s .args .bytes .now) (s .args .words .now)) (s .args .call) (t .enum-told .given .1) (z .on-first .ensures) (b .start .ensures)
 
--- src/lib.rt:187:9
-fits-requires : tie.Need-fits-requires
-fits-requires c κs = search needs
-
--- src/lib.rt:188:9
-on-record-0-requires-2 : tie.Need-on-record-0-requires-2
-on-record-0-requires-2 c κs = search needs
-
--- src/lib.rt:188:9
-same-length-3 : tie.Need-same-length-3
-same-length-3 c = search needs
-
--- src/lib.rt:188:9
-same-length-4 : tie.Need-same-length-4
-same-length-4 c = search needs
-
--- src/lib.rt:188:9
+-- each row is told by what was tested, wherever in the function that was
 returns-2 : tie.Need-returns-2
-returns-2 c = ?
+returns-2 c =
+    let s : tie.Start = search in
+    let z : tie.After-on-first2 = search in
+    state-entry (s .args .order) (memory (s .args .bytes .now) (s .args .words .now)) (s .args .call) (no-start (s .args .call) (search)) (cc) (z .on-first2 .ensures)
 
--- src/lib.rt:190:9
-order-passes-requires : tie.Need-order-passes-requires
-order-passes-requires c κs = search needs
-
--- src/lib.rt:191:9
-on-record-0-requires-3 : tie.Need-on-record-0-requires-3
-on-record-0-requires-3 c κs = search needs
-
--- src/lib.rt:191:9
-same-length-5 : tie.Need-same-length-5
-same-length-5 c = search needs
-
--- src/lib.rt:191:9
-same-length-6 : tie.Need-same-length-6
-same-length-6 c = search needs
-
--- src/lib.rt:191:9
 returns-3 : tie.Need-returns-3
-returns-3 c = ?
+returns-3 c =
+    let s : tie.Start = search in
+    let z : tie.After-on-first3 = search in
+    order-entry (s .args .order) (memory (s .args .bytes .now) (s .args .words .now)) (s .args .call) (no-start (s .args .call) (search)) (cc) (cc) (z .on-first3 .ensures)
 
--- src/lib.rt:193:9
 asker-requires : tie.Need-asker-requires
-asker-requires c κs = ?
+asker-requires c κs =
+    let s : tie.Start = search in
+    ready (s .args .order) (memory (s .args .bytes .now) (s .args .words .now)) (cc) (cc) .0
 
--- src/lib.rt:194:9
 event-requires : tie.Need-event-requires
-event-requires c κs = ?
+event-requires c κs =
+    let s : tie.Start = search in
+    ready (s .args .order) (memory (s .args .bytes .now) (s .args .words .now)) (cc) (cc)
 
--- src/lib.rt:180:1
-same-length-7 : tie.Need-same-length-7
-same-length-7 c = search needs
-
--- src/lib.rt:180:1
-same-length-8 : tie.Need-same-length-8
-same-length-8 c = search needs
-
--- src/lib.rt:180:1
 returns-4 : tie.Need-returns-4
-returns-4 c = ?
+returns-4 c =
+    let s : tie.Start = search in
+    let k : tie.After-asker = search in
+    let e : tie.After-event = search in
+    let m = memory (s .args .bytes .now) (s .args .words .now) in
+    event-entry (s .args .order) m (s .args .call) (no-start (s .args .call) (k .before .before .before .before .before .before .before .before .match .keys2)) (ready (s .args .order) m (cc) (cc)) (e .event .ensures) (k .asker .ensures .0 (s .args .words .now)) (k .asker .ensures .1)
 
 pub carry-out-spec : {M : Type 1} → statement M
 carry-out-spec =
     tie.close
     (tie.spec
-    enum-told
-    start-requires
-    on-record-0-requires
-    same-length
-    same-length-2
+    (λ c. search needs)
+    (λ c κs. search needs)
+    (λ c κs. search needs)
+    (λ c. search needs)
+    (λ c. search needs)
     returns
-    fits-requires
-    on-record-0-requires-2
-    same-length-3
-    same-length-4
+    (λ c κs. search needs)
+    (λ c κs. search needs)
+    (λ c. search needs)
+    (λ c. search needs)
     returns-2
-    order-passes-requires
-    on-record-0-requires-3
-    same-length-5
-    same-length-6
+    (λ c κs. search needs)
+    (λ c κs. search needs)
+    (λ c. search needs)
+    (λ c. search needs)
     returns-3
     asker-requires
     event-requires
-    same-length-7
-    same-length-8
+    (λ c. search needs)
+    (λ c. search needs)
     returns-4)

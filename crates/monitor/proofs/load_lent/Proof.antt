@@ -1,47 +1,24 @@
 use borrow.Author.Needs.{needs}
+use Rattle.model.specs.State.{memory}
+use Rattle.monitor.proofs.Entering.{load-refused, load-entry}
 use Rattle.monitor.proofs.load_lent.Statement.{statement}
 use Rattle.monitor.proofs.load_lent.Tie as tie
-use Rattle.monitor.proofs.load_lent.Reads as reads
-use Rattle.monitor.proofs.load_lent.Lts as lts
-use Rattle.monitor.proofs.load.Reads as load-reads
-use Rattle.monitor.proofs.on_record_0.Reads as on-record-0-reads
 
--- src/lib.rt:300:9
-on-record-0-requires : tie.Need-on-record-0-requires
-on-record-0-requires c κs = search needs
-
--- src/lib.rt:300:9
 returns : tie.Need-returns
-returns c = ?
+returns c =
+    let s : tie.Start = search in
+    let i : tie.Then1 = search in
+    let z : tie.After-on-first = search in
+    load-refused (memory (s .args .bytes .now) (s .args .words .now)) (s .args .lent) _ (i .if1 .taken) (z .on-first .ensures)
 
--- src/lib.rt:302:17
-load-requires : tie.Need-load-requires
-load-requires c κs = search needs
-
--- src/lib.rt:302:5
-on-record-0-requires-2 : tie.Need-on-record-0-requires-2
-on-record-0-requires-2 c κs = search needs
-
--- src/lib.rt:289:1
-same-length : tie.Need-same-length
-same-length c = search needs
-
--- src/lib.rt:289:1
-same-length-2 : tie.Need-same-length-2
-same-length-2 c = search needs
-
--- src/lib.rt:289:1
 returns-2 : tie.Need-returns-2
-returns-2 c = ?
+returns-2 c =
+    let s : tie.Start = search in
+    let i : tie.Else1 = search in
+    let l : tie.After-load = search in
+    let z : tie.After-on-first2 = search in
+    load-entry (memory (s .args .bytes .now) (s .args .words .now)) (s .args .lent) _ (i .if1 .left) (z .on-first2 .ensures) (l .load .ensures)
 
 pub load-lent-spec : {M : Type 1} → statement M
 load-lent-spec =
-    tie.close
-    (tie.spec
-    on-record-0-requires
-    returns
-    load-requires
-    on-record-0-requires-2
-    same-length
-    same-length-2
-    returns-2)
+    tie.close (tie.spec (λ c κs. search needs) returns (λ c κs. search needs) (λ c κs. search needs) (λ c. search needs) (λ c. search needs) returns-2)

@@ -1,48 +1,31 @@
+use mathlib.Core.Path.{refl, sym, ap, _∙_}
 use borrow.Author.Needs.{needs}
+use Rattle.rows.specs.Size.{numbers}
+use Rattle.model.specs.Verdicts.{row-state}
+use Rattle.model.specs.State.{memory}
+use Rattle.model.specs.Events.{left}
+use Rattle.model.specs.Monitor.{refusedUnless}
+use Rattle.model.specs.Tallies.{tallied}
+use Rattle.tallies.specs.Counts.{recordsIn}
+use Rattle.tallies.specs.EntryLaws.{performed-is}
+use Rattle.monitor.proofs.Entering.{counted-length}
 use Rattle.monitor.proofs.perform.Statement.{statement}
 use Rattle.monitor.proofs.perform.Tie as tie
-use Rattle.monitor.proofs.perform.Reads as reads
-use Rattle.monitor.proofs.perform.Lts as lts
-use Rattle.monitor.proofs.call_lent.Reads as call-lent-reads
-use Rattle.tallies.proofs.enter_counts.Reads as enter-counts-reads
-use Rattle.tallies.proofs.records_in.Reads as records-in-reads
 
--- src/lib.rt:224:9
-records-in-requires : tie.Need-records-in-requires
-records-in-requires c κs = search needs
-
--- src/lib.rt:225:9
-call-lent-requires : tie.Need-call-lent-requires
-call-lent-requires c κs = search needs
-
--- src/lib.rt:226:5
-enter-counts-requires : tie.Need-enter-counts-requires
-enter-counts-requires c κs = search needs
-
--- src/lib.rt:214:1
-same-length : tie.Need-same-length
-same-length c = search needs
-
--- src/lib.rt:214:1
-same-length-2 : tie.Need-same-length-2
-same-length-2 c = search needs
-
--- src/lib.rt:214:1
-same-length-3 : tie.Need-same-length-3
-same-length-3 c = search needs
-
--- src/lib.rt:214:1
 returns : tie.Need-returns
-returns c = ?
+returns c =
+    let s : tie.Start = search in
+    let n : tie.After-records-in = search in
+    let d : tie.After-call-lent = search in
+    let e : tie.After-enter-counts = search in
+    let m = memory (s .args .bytes .now) (s .args .words .now) in
+    let ts = recordsIn (s .args .counts .now) in
+    (
+      ap (tallied _) (e .enter-counts .ensures .0)
+      ∙ performed-is (s .args .order) m ts (s .args .call) _ (d .call-lent .result) (d .call-lent .ensures .0 ∙ counted-length m _ (n .records-in .ensures)) refl (d .call-lent .ensures .1),
+      e .enter-counts .ensures .1,
+    )
 
 pub perform-spec : {M : Type 1} → statement M
 perform-spec =
-    tie.close
-    (tie.spec
-    records-in-requires
-    call-lent-requires
-    enter-counts-requires
-    same-length
-    same-length-2
-    same-length-3
-    returns)
+    tie.close (tie.spec (λ c κs. search needs) (λ c κs. search needs) (λ c κs. search needs) (λ c. search needs) (λ c. search needs) (λ c. search needs) returns)

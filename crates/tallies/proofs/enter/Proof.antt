@@ -150,10 +150,10 @@ module _ {M : Type 1} (𝓤 : URA M) (H : Heap 𝓤) (A : Atoms 𝓤) (W : Given
   v-fits : v < 2 ^ 8
   v-fits = LL.owed N.the-type N′.the-laws (n .answer) _ (LL.owed R.the-type R′.the-laws n _ n-is .0) .0 .1
 
-  record-fits : n .record < 2 ^ 64
-  record-fits = omega (arith, fits)
+  number-fits : n .number < 2 ^ 64
+  number-fits = omega (arith, fits)
 
-  place-fits : n .record * 12 < 2 ^ 64
+  place-fits : n .number * 12 < 2 ^ 64
   place-fits = omega (arith, fits)
 
   bit-fits : boolByte (n .anew) < 2 ^ 64
@@ -204,17 +204,17 @@ module _ {M : Type 1} (𝓤 : URA M) (H : Heap 𝓤) (A : Atoms 𝓤) (W : Given
     offset-fits : (i : Upto) → i .0 < bound → i .0 * 12 < 2 ^ 64
     offset-fits i less = let l = bound-small in omega (arith, l, less)
 
-    in-all : (i : Upto) → n .record < length (filled (i .0))
-    in-all i = subst (λ (k : ℕ). n .record < k) (sym (same-length (i .0) ts (within-list i))) (omega (arith, fits, long))
+    in-all : (i : Upto) → n .number < length (filled (i .0))
+    in-all i = subst (λ (k : ℕ). n .number < k) (sym (same-length (i .0) ts (within-list i))) (omega (arith, fits, long))
 
-    left-long : (i : Upto) (r : Tally) → length (set (filled (i .0)) (n .record) r) ≡ length ts
-    left-long i r = length-set (filled (i .0)) (n .record) r ∙ same-length (i .0) ts (within-list i)
+    left-long : (i : Upto) (r : Tally) → length (set (filled (i .0)) (n .number) r) ≡ length ts
+    left-long i r = length-set (filled (i .0)) (n .number) r ∙ same-length (i .0) ts (within-list i)
 
-    left-is : (i : Upto) → bound ≤ i .0 → (r : Tally) → r ≡ raised (getD (filled (i .0)) (n .record) nothingCounted) v → set (filled (i .0)) (n .record) r ≡ enteredAs n ts
+    left-is : (i : Upto) → bound ≤ i .0 → (r : Tally) → r ≡ raised (getD (filled (i .0)) (n .number) nothingCounted) v → set (filled (i .0)) (n .number) r ≡ enteredAs n ts
     unfolding raisedAt firstZeroed
     left-is i over r e =
         let at : i .0 ≡ bound = le-antisymm (i .1) over in
-        ap (λ (z : Tally). set (filled (i .0)) (n .record) z) e ∙ ap (λ (k : ℕ). raisedAt (n .record) v (filled k)) at ∙ fit-entered n ts long
+        ap (λ (z : Tally). set (filled (i .0)) (n .number) z) e ∙ ap (λ (k : ℕ). raisedAt (n .number) v (filled k)) at ∙ fit-entered n ts long
 
   same-long : Holds (not (not (eqb (length ts) 128))) → length ts ≡ numbers
   same-long h = eqb→eq (length ts) 128 (twice (eqb (length ts) 128) h)
@@ -317,16 +317,16 @@ module _ {M : Type 1} (𝓤 : URA M) (H : Heap 𝓤) (A : Atoms 𝓤) (W : Given
       -- the turn that leaves the loop: one record is raised, and the borrow closed
       raises : (i : Upto) → ltb (i .0) bound ≡ false → Sq W (At i) (runs C Λ En code-mir.turn-1 (anyQ (Turned i)))
       unfolding afterTurn
-      raises i e₀ = let us = filled (i .0) in let within = in-all long i in let t = getD us (n .record) nothingCounted in
+      raises i e₀ = let us = filled (i .0) in let within = in-all long i in let t = getD us (n .number) nothingCounted in
           assigns ! (bin ! (load ! (from ! (stop !)) (look ! 28 refl)) (load ! (from ! (stop !)) (look ! 30 refl)) tt) (from ! (stop !)) (init ! 16 refl (tt, tt)) $
           rewrite ! 16 (λ (y : Bool). ‵ (fat fullShare tyBool l₁₀ 0 (vbool y))) e₀ refl $ leaves-loop ! (load ! (from ! (stop !)) (look ! 16 refl)) $
           exec ! C Λ En code-mir.t-8 (atRet En Post) $
-          assigns ! (un ! (load ! (from ! (fld ! refl (stop !))) (look-in ! 32 (sub ! 1 refl (whole !)))) (record { fits = record-fits })) (from ! (stop !)) (init ! 26 refl (tt, record { fits = record-fits })) $
-          elem-out ! T.the-row (Is T.the-row) (shows 𝓤 H A T.the-row) (LL.vals T.the-type T′.the-laws) (LL.tells T.the-type T′.the-laws) fullShare us (n .record) nothingCounted b o within (λ t-is.
+          assigns ! (un ! (load ! (from ! (fld ! refl (stop !))) (look-in ! 32 (sub ! 1 refl (whole !)))) (record { fits = number-fits })) (from ! (stop !)) (init ! 26 refl (tt, record { fits = number-fits })) $
+          elem-out ! T.the-row (Is T.the-row) (shows 𝓤 H A T.the-row) (LL.vals T.the-type T′.the-laws) (LL.tells T.the-type T′.the-laws) fullShare us (n .number) nothingCounted b o within (λ t-is.
           -- [the element; what it owns; the others; the open borrow; obs; auth; _16 at 6; …]
           assigns ! (bin ! (load ! (from ! (stop !)) (look ! 28 refl)) (lit ! tt) (record { fits = place-fits })) (from ! (stop !)) (init ! 22 refl (tt, record { fits = place-fits })) $
           assigns ! (bin ! (load ! (from ! (fld ! refl (stop !))) (look-in ! 36 (sub ! 0 refl (whole !)))) (load ! (from ! (stop !)) (look ! 22 refl)) tt) (from ! (stop !)) (init ! 10 refl (tt, tt)) $
-          rewrite ! 10 (λ (p : ℕ). ‵ (fat fullShare tyPtr l₁₄ 0 (vptr b p))) (sym (place-is 12 o (n .record))) refl $
+          rewrite ! 10 (λ (p : ℕ). ‵ (fat fullShare tyPtr l₁₄ 0 (vptr b p))) (sym (place-is 12 o (n .number))) refl $
           assigns ! (of-opd ! (load ! (from ! (hop ! (look ! 10 refl) (stop !))) (look-raw ! 0 refl))) (from ! (stop !)) (init ! 8 refl (LL.lawful T.the-type T′.the-laws 𝓤 H A W .typed t _ t-is .0)) $
           assigns ! (of-opd ! (load ! (from ! (stop !)) (look ! 8 refl))) (from ! (stop !)) (init ! 26 refl (LL.lawful T.the-type T′.the-laws 𝓤 H A W .typed t _ t-is .0)) $
           -- the call
@@ -338,15 +338,15 @@ module _ {M : Type 1} (𝓤 : URA M) (H : Heap 𝓤) (A : Atoms 𝓤) (W : Given
           -- [what the result owns; the element; what it owned; the others; the open borrow; obs; auth; _16 at 7; …]
           assigns ! (bin ! (load ! (from ! (stop !)) (look ! 29 refl)) (lit ! tt) (record { fits = place-fits })) (from ! (stop !)) (store ! 23 refl (tt, record { fits = place-fits })) $
           assigns ! (bin ! (load ! (from ! (fld ! refl (stop !))) (look-in ! 37 (sub ! 0 refl (whole !)))) (load ! (from ! (stop !)) (look ! 23 refl)) tt) (from ! (stop !)) (init ! 7 refl (tt, tt)) $
-          rewrite ! 7 (λ (p : ℕ). ‵ (fat fullShare tyPtr l₁₆ 0 (vptr b p))) (sym (place-is 12 o (n .record))) refl $
+          rewrite ! 7 (λ (p : ℕ). ‵ (fat fullShare tyPtr l₁₆ 0 (vptr b p))) (sym (place-is 12 o (n .number))) refl $
           assigns ! (of-opd ! (load ! (from ! (stop !)) (look ! 25 refl))) (from ! (hop ! (look ! 7 refl) (stop !))) (store-raw ! 1 refl (LL.lawful T.the-type T′.the-laws 𝓤 H A W .typed r _ is .0)) $
           assigns ! (of-opd ! (unit-lit !)) (from ! (stop !)) (init ! 39 refl (tt, tt)) $
           -- the record is put into the row, and the borrow is closed
-          move ! (1 ∷ 0 ∷ 3 ∷ []) $ elem-put ! T.the-row fullShare us (n .record) r (w ∷ []) b o within $ move ! (0 ∷ 2 ∷ 3 ∷ 4 ∷ []) $ closes-slice ! tt T.the-row ts (set us (n .record) r) (left-long long i r) b o $
+          move ! (1 ∷ 0 ∷ 3 ∷ []) $ elem-put ! T.the-row fullShare us (n .number) r (w ∷ []) b o within $ move ! (0 ∷ 2 ∷ 3 ∷ 4 ∷ []) $ closes-slice ! tt T.the-row ts (set us (n .number) r) (left-long long i r) b o $
           -- [obs; the borrow; the token; what the old record owned; _16 at 4; …]
           returns ! (look ! 36 refl) $ forget ! 4 refl $ forget ! 6 refl $ forget ! 8 refl $ forget ! 16 refl $ forget ! 20 refl $ forget ! 22 refl $ forget ! 24 refl $ forget ! 26 refl $ forget ! 28 refl $ forget ! 30 refl $ forget ! 32 refl $ forget ! 34 refl $ forget ! 36 refl $
           move ! (36 ∷ 37 ∷ []) $ free1 ! $ move ! (34 ∷ 35 ∷ []) $ free1 ! $ move ! (32 ∷ 33 ∷ []) $ free1 ! $ move ! (30 ∷ 31 ∷ []) $ free1 ! $ move ! (28 ∷ 29 ∷ []) $ free1 ! $ move ! (26 ∷ 27 ∷ []) $ free1 ! $ move ! (24 ∷ 25 ∷ []) $ free1 ! $ move ! (22 ∷ 23 ∷ []) $ free1 ! $ move ! (20 ∷ 21 ∷ []) $ free1 ! $ move ! (18 ∷ 19 ∷ []) $ free1 ! $ move ! (16 ∷ 17 ∷ []) $ free1 ! $ move ! (14 ∷ 15 ∷ []) $ free1 ! $ move ! (12 ∷ 13 ∷ []) $ free1 ! $ move ! (10 ∷ 11 ∷ []) $ free1 ! $ move ! (8 ∷ 9 ∷ []) $ free1 ! $ move ! (6 ∷ 7 ∷ []) $ free1 ! $ move ! (4 ∷ 5 ∷ []) $ free1 ! $ free0 ! $
-          keep ! (0 ∷ 1 ∷ 2 ∷ []) $ by ! (exits (set us (n .record) r) (left-long long i r) (left-is long i (ltb-false (i .0) bound e₀) r e)))))))
+          keep ! (0 ∷ 1 ∷ 2 ∷ []) $ by ! (exits (set us (n .number) r) (left-long long i r) (left-is long i (ltb-false (i .0) bound e₀) r e)))))))
 
       turns : (i : Upto) → Sq W (At i) (runs C Λ En code-mir.turn-1 (anyQ (Turned i)))
       turns i = ⊎-elim (zeroes i) (raises i) (either (ltb (i .0) bound))

@@ -38,7 +38,7 @@ returns-2 c =
     let e = s .args .entry in
     let fits : length (recordsIn (s .args .counts .now)) ≡ numbers = omega arith in
     (r .raise-counts .ensures .0
-    ∙ ap (λ (ts : List Tally). raisedAt (e .record) (e .answer .verdict) ts) (z .zero-counts .ensures .0)
+    ∙ ap (λ (ts : List Tally). raisedAt (e .number) (e .answer .verdict) ts) (z .zero-counts .ensures .0)
     ∙ fit-entered e (recordsIn (s .args .counts .now)) fits, r .raise-counts .ensures .1 ∙ z .zero-counts .ensures .1)
 
 pub enter-counts-spec : {M : Type 1} → statement M
