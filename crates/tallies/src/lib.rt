@@ -15,7 +15,7 @@ use model::Call;
 use model::Tally;
 
 // How many counts a record has, where a list is lent as plain numbers.
-const COUNTS: usize = 3;
+pub const COUNTS: usize = 3;
 
 // What a call answers, the number whose record counts it, and whether the list begins anew: it is then zeroed first.
 pub struct Entry {

@@ -25,7 +25,7 @@ const IN: usize = 16384;
 const OUT: usize = 131072;
 
 // The list of tallies: a record for each number, three counts to a record.
-const TALLIES: usize = 3 * records::RECORDS;
+const TALLIES: usize = tallies::COUNTS * records::RECORDS;
 
 // What a turn comes to: how much of the input buffer was fed, whether more may be read, and whether no read and no write has failed.
 struct Turn {
