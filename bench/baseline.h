@@ -12,14 +12,14 @@ extern "C" {
 #endif
 
 struct tupehiwo_answer baseline_perform(uint8_t *bytes, size_t nbytes, uint64_t *words,
-                                        size_t nwords, struct tupehiwo_tally *tally,
-                                        struct tupehiwo_order order,
+                                        size_t nwords, struct tupehiwo_tally *tallies,
+                                        size_t ntallies, struct tupehiwo_order order,
                                         struct tupehiwo_request request);
 
 struct tupehiwo_answer baseline_load(uint8_t *bytes, size_t nbytes, uint64_t *words,
-                                     size_t nwords, struct tupehiwo_tally *tally,
-                                     struct tupehiwo_order order, const uint8_t *text,
-                                     size_t ntext);
+                                     size_t nwords, struct tupehiwo_tally *tallies,
+                                     size_t ntallies, struct tupehiwo_order order,
+                                     const uint8_t *text, size_t ntext);
 
 struct tupehiwo_checked baseline_layout(const uint8_t *text, size_t ntext);
 

@@ -22,7 +22,7 @@ struct times {
 
 /*
  * Runs a batch of each side, the plain one first. False, and said, where an
- * answer, the bytes, the words or the tally differ.
+ * answer, the bytes, the words or the tallies differ.
  */
 int same_on_both(const struct item items[VARIANTS], const char *name);
 

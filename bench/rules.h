@@ -448,6 +448,18 @@ static uint8_t perform(struct state *s, struct tupehiwo_request q)
     }
 }
 
+/* Whose tally a call counts on: in those that a task asks for, its first number's. */
+static unsigned asker(const struct state *s, struct tupehiwo_request q)
+{
+    int asks = q.code >= TUPEHIWO_CODE_READ && q.code <= TUPEHIWO_CODE_FIND;
+    return asks && is(s, q.a, TASK) ? q.a : 0;
+}
+
+static void clear_tallies(struct tupehiwo_tally *tallies)
+{
+    memset(tallies, 0, TUPEHIWO_TALLIES * sizeof *tallies);
+}
+
 static void raise(struct tupehiwo_tally *tally, uint8_t verdict)
 {
     uint32_t *count = verdict == TUPEHIWO_GRANTED   ? &tally->granted
@@ -457,21 +469,29 @@ static void raise(struct tupehiwo_tally *tally, uint8_t verdict)
         ++*count;
 }
 
+/* A list of another length is left as it is; nothing can be counted on it. */
 struct tupehiwo_answer baseline_perform(uint8_t *bytes, size_t nbytes, uint64_t *words,
-                                        size_t nwords, struct tupehiwo_tally *tally,
-                                        struct tupehiwo_order order,
+                                        size_t nwords, struct tupehiwo_tally *tallies,
+                                        size_t ntallies, struct tupehiwo_order order,
                                         struct tupehiwo_request request)
 {
     struct state s = {bytes, words, &order};
+    struct tupehiwo_answer answer = {TUPEHIWO_STATE, 0};
     int starting = request.code == TUPEHIWO_CODE_START;
-    struct tupehiwo_answer answer = {fit(bytes, nbytes, nwords, &order, starting), 0};
+    unsigned counted = 0;
+    if (ntallies != TUPEHIWO_TALLIES)
+        return answer;
+    answer.verdict = fit(bytes, nbytes, nwords, &order, starting);
     if (answer.verdict == TUPEHIWO_GRANTED) {
+        counted = asker(&s, request);
         if (request.code == TUPEHIWO_CODE_SPREAD)
             answer.rounds = spread(&s);
         else
             answer.verdict = perform(&s, request);
+        if (starting)
+            clear_tallies(tallies);
     }
-    raise(tally, answer.verdict);
+    raise(&tallies[counted], answer.verdict);
     return answer;
 }
 
@@ -507,24 +527,29 @@ static uint8_t lay_out(struct state *s, const uint8_t *text, size_t ntext)
     return verdict;
 }
 
-/* A refusal past the order leaves the state of a start. */
+/* A refusal past the order leaves the state of a start, and the tallies of before. */
 struct tupehiwo_answer baseline_load(uint8_t *bytes, size_t nbytes, uint64_t *words,
-                                     size_t nwords, struct tupehiwo_tally *tally,
-                                     struct tupehiwo_order order, const uint8_t *text,
-                                     size_t ntext)
+                                     size_t nwords, struct tupehiwo_tally *tallies,
+                                     size_t ntallies, struct tupehiwo_order order,
+                                     const uint8_t *text, size_t ntext)
 {
     struct state s = {bytes, words, &order};
-    struct tupehiwo_answer answer = {fit(bytes, nbytes, nwords, &order, 1), 0};
+    struct tupehiwo_answer answer = {TUPEHIWO_STATE, 0};
+    if (ntallies != TUPEHIWO_TALLIES)
+        return answer;
+    answer.verdict = fit(bytes, nbytes, nwords, &order, 1);
     if (answer.verdict == TUPEHIWO_GRANTED) {
         start(&s);
         answer.verdict = check_layout(text, ntext).verdict;
         if (answer.verdict == TUPEHIWO_GRANTED) {
             answer.verdict = lay_out(&s, text, ntext);
-            if (answer.verdict != TUPEHIWO_GRANTED)
+            if (answer.verdict == TUPEHIWO_GRANTED)
+                clear_tallies(tallies);
+            else
                 start(&s);
         }
     }
-    raise(tally, answer.verdict);
+    raise(&tallies[0], answer.verdict);
     return answer;
 }
 

@@ -176,7 +176,7 @@ static struct tupehiwo_monitor monitor;
 static struct tupehiwo_answer ask(struct tupehiwo_order order, struct tupehiwo_request request)
 {
     return baseline_perform(monitor.bytes, TUPEHIWO_BYTES, monitor.words, TUPEHIWO_WORDS,
-                            &monitor.tally, order, request);
+                            monitor.tallies, TUPEHIWO_TALLIES, order, request);
 }
 
 enum outcome { BAD, DONE };

@@ -3,7 +3,8 @@
  *
  * The monitor follows tasks and objects, their levels, who read and wrote
  * what, and which of them are marked as captured. It keeps nothing of its own:
- * each call is lent 1,024 bytes and 768 words, and the order of the levels.
+ * each call is lent 1,024 bytes and 768 words, a list of 128 tallies, and the order
+ * of the levels (a report has no list).
  *
  * Either lend your own memory to tupehiwo_perform, tupehiwo_load and
  * tupehiwo_report, or keep a struct tupehiwo_monitor and use the inline function
@@ -16,8 +17,15 @@
  * marks (1 marked, plus 2 marked from outside), two zero bytes. Words: two for
  * each row, number 0 in the lowest bit of the first; 128 rows of flows (row is
  * the source), 128 of read accesses, 128 of write accesses (row is the task).
- * Bytes, words and tally must not overlap, nor a text with any of them. Calls on
- * different memory may run at the same time.
+ * Tallies: one for each number. Bytes, words and tallies must not overlap, nor a
+ * text with any of them. Calls on different memory may run at the same time.
+ *
+ * A call counts on one tally, that of the task that asks, so that the list tells
+ * whose calls were refused. The call's first number asks, if it names a task before
+ * the call. All else counts on tally 0, the core's: every start, load, mark, step
+ * and spread, every call refused with TUPEHIWO_STATE or TUPEHIWO_ORDER, and every
+ * call whose first number names no task. A granted start or load sets the whole list
+ * to zero, and then counts itself. What a list holds is never tested.
  *
  * A layout is a text that says which tasks and objects an instrument has when it
  * is switched on:
@@ -51,6 +59,7 @@ enum {
     TUPEHIWO_THINGS = 128,         /* numbers 0 to 127; 0 is the core, a task */
     TUPEHIWO_BYTES = 1024,         /* eight bytes for each number */
     TUPEHIWO_WORDS = 768,          /* flows at 0, read accesses at 256, write accesses at 512 */
+    TUPEHIWO_TALLIES = 128,        /* one for each number */
     TUPEHIWO_LEVELS = 16,          /* rows of an order */
     TUPEHIWO_LAYOUT_BYTES = 16384, /* the longest text of a layout */
     TUPEHIWO_LAYOUT_DEPTH = 8      /* objects in objects, a root object being the first */
@@ -116,7 +125,10 @@ struct tupehiwo_order {
     uint16_t top;
 };
 
-/* How many calls were granted, slipped and refused; each stops at 4,294,967,295. */
+/*
+ * How many of the calls that count here were granted, slipped and refused; each stops
+ * at 4,294,967,295.
+ */
 struct tupehiwo_tally {
     uint32_t granted, slipped, refused;
 };
@@ -140,13 +152,14 @@ struct tupehiwo_report {
 };
 
 /*
- * Performs one call on the memory lent and counts it in the tally. A refusal
- * leaves bytes and words as they were. A code that names no call is an unfit
- * number (TUPEHIWO_NUMBER).
+ * Performs one call on the memory lent and counts it on one tally, as said above. A
+ * refusal changes nothing but the refused count of that one. A list of another length
+ * than 128 is refused with TUPEHIWO_STATE, and then nothing at all changes. A code
+ * that names no call is an unfit number (TUPEHIWO_NUMBER), counted on tally 0.
  */
 struct tupehiwo_answer tupehiwo_perform(uint8_t *bytes, size_t nbytes, uint64_t *words,
-                                        size_t nwords, struct tupehiwo_tally *tally,
-                                        struct tupehiwo_order order,
+                                        size_t nwords, struct tupehiwo_tally *tallies,
+                                        size_t ntallies, struct tupehiwo_order order,
                                         struct tupehiwo_request request);
 
 /*
@@ -154,21 +167,22 @@ struct tupehiwo_answer tupehiwo_perform(uint8_t *bytes, size_t nbytes, uint64_t 
  * in the text's order, by the core (task 0): tupehiwo_create_root for an object in
  * none, tupehiwo_execute for a task. Before tupehiwo_create for an object in
  * another, the core and then the new object's driver each write to the container,
- * through the container's driver. The load counts once in the tally, its calls not
- * at all.
+ * through the container's driver. The load counts once, on tally 0, its calls not at
+ * all. Granted, it sets the list to zero before; refused, it does not.
  *
  * As a start does, it tests only the lengths for TUPEHIWO_STATE, then the order;
- * refused so, it leaves all as it was. Then the whole text is tested for its form
- * (TUPEHIWO_FORM), then for its depth (TUPEHIWO_DEEP), before any call. The first
- * call that is refused ends the load, which answers with its verdict. After each of
- * these refusals the memory is that of a start under the order lent.
+ * refused so, it leaves bytes and words as they were, and where the list has not 128
+ * tallies, the list too. Then the whole text is tested for its form (TUPEHIWO_FORM),
+ * then for its depth (TUPEHIWO_DEEP), before any call. The first call that is refused
+ * ends the load, which answers with its verdict. After each of these refusals bytes
+ * and words are those of a start under the order lent.
  *
  * It takes less than 4 KiB of stack for every text.
  */
 struct tupehiwo_answer tupehiwo_load(uint8_t *bytes, size_t nbytes, uint64_t *words,
-                                     size_t nwords, struct tupehiwo_tally *tally,
-                                     struct tupehiwo_order order, const uint8_t *text,
-                                     size_t ntext);
+                                     size_t nwords, struct tupehiwo_tally *tallies,
+                                     size_t ntallies, struct tupehiwo_order order,
+                                     const uint8_t *text, size_t ntext);
 
 /* Where a text was left, in bytes from its beginning, and why. */
 struct tupehiwo_checked {
@@ -207,7 +221,7 @@ uint16_t tupehiwo_next_marked(struct tupehiwo_report report, uint16_t from);
 struct tupehiwo_monitor {
     uint8_t bytes[TUPEHIWO_BYTES];
     uint64_t words[TUPEHIWO_WORDS];
-    struct tupehiwo_tally tally;
+    struct tupehiwo_tally tallies[TUPEHIWO_TALLIES];
     struct tupehiwo_order order; /* that of the last start or load that made the state anew */
 };
 
@@ -230,16 +244,17 @@ static inline struct tupehiwo_answer tupehiwo_do(struct tupehiwo_monitor *m, uin
     struct tupehiwo_request request = {tupehiwo_narrow(code), tupehiwo_narrow(a),
                                        tupehiwo_narrow(b),    tupehiwo_narrow(c),
                                        tupehiwo_narrow(d),    tupehiwo_narrow(e)};
-    return tupehiwo_perform(m->bytes, TUPEHIWO_BYTES, m->words, TUPEHIWO_WORDS, &m->tally,
-                            m->order, request);
+    return tupehiwo_perform(m->bytes, TUPEHIWO_BYTES, m->words, TUPEHIWO_WORDS, m->tallies,
+                            TUPEHIWO_TALLIES, m->order, request);
 }
 
 /* Begins anew under an order: the core alone. A refused start keeps the old order. */
 static inline uint8_t tupehiwo_start(struct tupehiwo_monitor *m, struct tupehiwo_order order)
 {
     struct tupehiwo_request request = {TUPEHIWO_CODE_START, 0, 0, 0, 0, 0};
-    struct tupehiwo_answer answer = tupehiwo_perform(m->bytes, TUPEHIWO_BYTES, m->words,
-                                                     TUPEHIWO_WORDS, &m->tally, order, request);
+    struct tupehiwo_answer answer =
+        tupehiwo_perform(m->bytes, TUPEHIWO_BYTES, m->words, TUPEHIWO_WORDS, m->tallies,
+                         TUPEHIWO_TALLIES, order, request);
     if (answer.verdict == TUPEHIWO_GRANTED)
         m->order = order;
     return answer.verdict;
@@ -255,8 +270,8 @@ static inline uint8_t tupehiwo_monitor_load(struct tupehiwo_monitor *m,
                                             size_t ntext)
 {
     struct tupehiwo_answer answer =
-        tupehiwo_load(m->bytes, TUPEHIWO_BYTES, m->words, TUPEHIWO_WORDS, &m->tally, order,
-                      (const uint8_t *)text, ntext);
+        tupehiwo_load(m->bytes, TUPEHIWO_BYTES, m->words, TUPEHIWO_WORDS, m->tallies,
+                      TUPEHIWO_TALLIES, order, (const uint8_t *)text, ntext);
     if (answer.verdict != TUPEHIWO_STATE && answer.verdict != TUPEHIWO_ORDER)
         m->order = order;
     return answer.verdict;
