@@ -15,8 +15,8 @@ pub struct Order {
     pub top: u16,
 }
 
-/// How many calls were granted, slipped and refused; each count stops at
-/// 4,294,967,295.
+/// How many of a task's calls were granted, slipped and refused; each count stops
+/// at 4,294,967,295.
 #[repr(C)]
 #[derive(Clone, Copy, Debug, Default, PartialEq, Eq)]
 pub struct Tally {
@@ -63,35 +63,40 @@ pub struct Report {
 }
 
 unsafe extern "C" {
-    /// Performs one call on the memory lent and counts it in the tally.
+    /// Performs one call on the memory lent and counts it on one tally, that of the
+    /// task that asks ([`Monitor::tally`](crate::Monitor::tally) says which). A list
+    /// of another length than 128 is refused with 2, and nothing changes then.
     ///
     /// # Safety
     ///
-    /// `bytes` and `words` must be valid for reads and writes of `nbytes` bytes
-    /// and `nwords` words, and `tally` for a record; none may overlap another.
+    /// `bytes`, `words` and `tallies` must be valid for reads and writes of `nbytes`
+    /// bytes, `nwords` words and `ntallies` tallies; none may overlap another.
     pub fn tupehiwo_perform(
         bytes: *mut u8,
         nbytes: usize,
         words: *mut u64,
         nwords: usize,
-        tally: *mut Tally,
+        tallies: *mut Tally,
+        ntallies: usize,
         order: Order,
         request: Request,
     ) -> Answer;
 
-    /// Begins anew with the layout of a text, and counts that once in the tally.
+    /// Begins anew with the layout of a text, and counts that once, on tally 0. A
+    /// list of another length than 128 is refused with 2, and nothing changes then.
     ///
     /// # Safety
     ///
-    /// `bytes` and `words` must be valid for reads and writes of `nbytes` bytes
-    /// and `nwords` words, `tally` for a record, and `text` for reads of `ntext`
+    /// `bytes`, `words` and `tallies` must be valid for reads and writes of `nbytes`
+    /// bytes, `nwords` words and `ntallies` tallies, and `text` for reads of `ntext`
     /// bytes; none may overlap another.
     pub fn tupehiwo_load(
         bytes: *mut u8,
         nbytes: usize,
         words: *mut u64,
         nwords: usize,
-        tally: *mut Tally,
+        tallies: *mut Tally,
+        ntallies: usize,
         order: Order,
         text: *const u8,
         ntext: usize,
@@ -126,19 +131,20 @@ unsafe extern "C" {
 pub fn perform(
     bytes: &mut [u8],
     words: &mut [u64],
-    tally: &mut Tally,
+    tallies: &mut [Tally],
     order: Order,
     request: Request,
 ) -> Answer {
-    // SAFETY: the pointers are those of slices and a reference lent for change,
-    // which never overlap, with the slices' own lengths.
+    // SAFETY: the pointers are those of slices lent for change, which never
+    // overlap, with the slices' own lengths.
     unsafe {
         tupehiwo_perform(
             bytes.as_mut_ptr(),
             bytes.len(),
             words.as_mut_ptr(),
             words.len(),
-            tally,
+            tallies.as_mut_ptr(),
+            tallies.len(),
             order,
             request,
         )
@@ -149,19 +155,20 @@ pub fn perform(
 pub fn load(
     bytes: &mut [u8],
     words: &mut [u64],
-    tally: &mut Tally,
+    tallies: &mut [Tally],
     order: Order,
     text: &[u8],
 ) -> Answer {
-    // SAFETY: the pointers are those of slices and a reference lent for change,
-    // which never overlap, and of a slice, with the slices' own lengths.
+    // SAFETY: the pointers are those of slices lent for change, which never
+    // overlap, and of a slice lent to be read, with the slices' own lengths.
     unsafe {
         tupehiwo_load(
             bytes.as_mut_ptr(),
             bytes.len(),
             words.as_mut_ptr(),
             words.len(),
-            tally,
+            tallies.as_mut_ptr(),
+            tallies.len(),
             order,
             text.as_ptr(),
             text.len(),

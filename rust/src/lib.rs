@@ -29,6 +29,10 @@
 //! assert_eq!(monitor.invoke(1, 2), Verdict::Granted);
 //! assert_eq!(monitor.write(1, 0, 10), Verdict::Rule);
 //!
+//! // Whom to ring: each call counts on the task that asked for it.
+//! let (task, tally) = monitor.refused().next().unwrap();
+//! assert_eq!((task, tally.granted, tally.refused), (1, 1, 1));
+//!
 //! // Task 1 was captured: who may be tainted?
 //! assert_eq!(monitor.mark(1), Verdict::Granted);
 //! assert_eq!(monitor.spread().rounds, 1);
@@ -45,7 +49,7 @@ mod report;
 mod verdict;
 
 pub use ffi::{Order, Tally};
-pub use monitor::{Answer, BYTES, Monitor, WORDS};
+pub use monitor::{Answer, BYTES, Monitor, TALLIES, WORDS};
 pub use report::{Marked, Report};
 pub use verdict::Verdict;
 

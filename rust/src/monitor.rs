@@ -6,6 +6,8 @@ use crate::verdict::Verdict;
 pub const BYTES: usize = 1024;
 /// Words of memory: flows at 0, read accesses at 256, write accesses at 512.
 pub const WORDS: usize = 768;
+/// Tallies of memory: one for each number.
+pub const TALLIES: usize = 128;
 
 /// What a spread answers.
 #[must_use = "a refused call has done nothing"]
@@ -24,7 +26,7 @@ pub struct Answer {
 pub struct Monitor {
     bytes: Box<[u8; BYTES]>,
     words: Box<[u64; WORDS]>,
-    tally: Tally,
+    tallies: Box<[Tally; TALLIES]>,
     order: Order,
 }
 
@@ -37,7 +39,8 @@ impl Default for Monitor {
 impl Monitor {
     /// Memory of zeros: every call but a start or a load is refused with `State`.
     pub fn new() -> Monitor {
-        Monitor::from_memory([0; BYTES], [0; WORDS], Tally::default(), Order::default())
+        let tallies = [Tally::default(); TALLIES];
+        Monitor::from_memory([0; BYTES], [0; WORDS], tallies, Order::default())
     }
 
     /// Goes on with memory that another monitor left, or any other: where it is
@@ -48,17 +51,22 @@ impl Monitor {
     ///
     /// let mut first = Monitor::new();
     /// assert_eq!(first.start(Order::new(0, [1])), Verdict::Granted);
-    /// let second =
-    ///     Monitor::from_memory(*first.bytes(), *first.words(), first.tally(), first.order());
+    /// let (bytes, words, tallies) = (*first.bytes(), *first.words(), *first.tallies());
+    /// let second = Monitor::from_memory(bytes, words, tallies, first.order());
     /// assert_eq!(second, first);
     /// ```
     pub fn from_memory(
         bytes: [u8; BYTES],
         words: [u64; WORDS],
-        tally: Tally,
+        tallies: [Tally; TALLIES],
         order: Order,
     ) -> Monitor {
-        Monitor { bytes: Box::new(bytes), words: Box::new(words), tally, order }
+        Monitor {
+            bytes: Box::new(bytes),
+            words: Box::new(words),
+            tallies: Box::new(tallies),
+            order,
+        }
     }
 
     /// The records of the things.
@@ -71,9 +79,71 @@ impl Monitor {
         &self.words
     }
 
-    /// How many calls were granted, slipped and refused.
-    pub fn tally(&self) -> Tally {
-        self.tally
+    /// The tally of each number; [`tally`](Monitor::tally) says what counts where.
+    pub fn tallies(&self) -> &[Tally; TALLIES] {
+        &self.tallies
+    }
+
+    /// How many calls of a task were granted, slipped and refused, since the last
+    /// granted start or load; `None` for the number 128 and more.
+    ///
+    /// A call counts once, on the task that asks: its first number, if that names a
+    /// task before the call. Tally 0 is the core's, and has the calls too that count
+    /// on no task: every start, load, mark, step and spread, those refused with
+    /// `State` or `Order`, and those whose first number names no task. A report is
+    /// not counted.
+    ///
+    /// ```
+    /// use tupehiwo::{Monitor, Order, Tally, Verdict};
+    ///
+    /// let mut monitor = Monitor::new();
+    /// assert_eq!(monitor.start(Order::new(0, [1])), Verdict::Granted);
+    /// assert_eq!(monitor.create_root(0, 0, 10, 0), Verdict::Granted);
+    /// assert_eq!(monitor.execute(0, 10, 1, 0, 0), Verdict::Granted);
+    ///
+    /// // The tasks are 0 and 1. Task 1 asks twice; number 2 is free.
+    /// assert_eq!(monitor.call(1, 0), Verdict::Granted);
+    /// assert_eq!(monitor.call(1, 2), Verdict::Number);
+    /// assert_eq!(monitor.call(2, 1), Verdict::Number);
+    ///
+    /// assert_eq!(monitor.tally(0), Some(Tally { granted: 3, slipped: 0, refused: 1 }));
+    /// assert_eq!(monitor.tally(1), Some(Tally { granted: 1, slipped: 0, refused: 1 }));
+    /// assert_eq!(monitor.tally(2), Some(Tally::default()));
+    /// assert_eq!(monitor.tally(128), None);
+    /// ```
+    pub fn tally(&self, number: u16) -> Option<Tally> {
+        self.tallies.get(usize::from(number)).copied()
+    }
+
+    /// Whom to ring: each number whose calls were refused, with its tally, the
+    /// numbers rising.
+    ///
+    /// Number 0 is there for the core's calls, or for those that no task asked for,
+    /// as [`tally`](Monitor::tally) says.
+    ///
+    /// ```
+    /// use tupehiwo::{Monitor, Order, Tally, Verdict};
+    ///
+    /// // A table at the top, and tasks of two shops below it.
+    /// let layout = b"(object 10 driver 0 level 1)\n\
+    ///                (object 11 driver 0 level 0)\n\
+    ///                (task 1 image 11 level 0 reads 0)\n\
+    ///                (task 2 image 11 level 0 reads 0)\n";
+    /// let mut monitor = Monitor::new();
+    /// assert_eq!(monitor.load(Order::new(1, [3, 2]), layout), Verdict::Granted);
+    /// assert_eq!(monitor.refused().next(), None);
+    ///
+    /// // Both read the table, and the second shop's task tries to write it, twice.
+    /// assert_eq!(monitor.read(1, 0, 10), Verdict::Granted);
+    /// assert_eq!(monitor.read(2, 0, 10), Verdict::Granted);
+    /// assert_eq!(monitor.write(2, 0, 10), Verdict::Rule);
+    /// assert_eq!(monitor.write(2, 0, 10), Verdict::Rule);
+    ///
+    /// let refused: Vec<(u16, Tally)> = monitor.refused().collect();
+    /// assert_eq!(refused, [(2, Tally { granted: 1, slipped: 0, refused: 2 })]);
+    /// ```
+    pub fn refused(&self) -> impl Iterator<Item = (u16, Tally)> {
+        (0..).zip(self.tallies.iter().copied()).filter(|(_, tally)| tally.refused != 0)
     }
 
     /// The order of the last start or load that made the state anew.
@@ -83,17 +153,23 @@ impl Monitor {
 
     /// Begins anew under an order: the core alone, at the top.
     ///
-    /// A refused start keeps the memory and the order of before.
+    /// A granted start sets all tallies to zero, and then counts itself. A refused
+    /// one keeps the memory and the order of before, and is counted as refused.
     ///
     /// ```
-    /// use tupehiwo::{Monitor, Order, Verdict};
+    /// use tupehiwo::{Monitor, Order, Tally, Verdict};
     ///
     /// let mut monitor = Monitor::new();
     /// assert_eq!(monitor.mark(0), Verdict::State);
+    /// assert_eq!(monitor.mark(0), Verdict::State);
+    /// assert_eq!(monitor.tally(0), Some(Tally { granted: 0, slipped: 0, refused: 2 }));
+    ///
     /// assert_eq!(monitor.start(Order::new(1, [3, 2])), Verdict::Granted);
+    /// assert_eq!(monitor.tally(0), Some(Tally { granted: 1, slipped: 0, refused: 0 }));
+    ///
     /// assert_eq!(monitor.start(Order::new(2, [3, 2])), Verdict::Order);
     /// assert_eq!(monitor.mark(0), Verdict::Granted);
-    /// assert_eq!((monitor.tally().granted, monitor.tally().refused), (2, 2));
+    /// assert_eq!(monitor.tally(0), Some(Tally { granted: 2, slipped: 0, refused: 1 }));
     /// ```
     pub fn start(&mut self, order: Order) -> Verdict {
         let verdict = self.perform(order, code::START, []).verdict;
@@ -108,11 +184,13 @@ impl Monitor {
     ///
     /// Refused with `Order` it keeps the memory and the order of before. Refused
     /// otherwise, for its text or with the verdict of the first call that is
-    /// refused, it leaves the core alone, as a start does, under the new order. It
-    /// counts once in the tally.
+    /// refused, it leaves the core alone, as a start does, under the new order.
+    ///
+    /// It counts once, on tally 0. A granted load sets all tallies to zero before; a
+    /// refused one keeps them.
     ///
     /// ```
-    /// use tupehiwo::{Monitor, Order, Verdict};
+    /// use tupehiwo::{Monitor, Order, Tally, Verdict};
     ///
     /// let order = Order::new(1, [3, 2]);
     /// let mut monitor = Monitor::new();
@@ -123,16 +201,18 @@ impl Monitor {
     ///              (task 1 image 11 level 1 reads 0)\n";
     /// assert_eq!(monitor.load(order, text), Verdict::Granted);
     /// assert_eq!(monitor.mark(1), Verdict::Granted);
-    /// assert_eq!(monitor.tally().granted, 2);
+    /// assert_eq!(monitor.tally(0), Some(Tally { granted: 2, slipped: 0, refused: 0 }));
     ///
     /// // There is no object 12 that a task could be run from.
     /// let text = b"(task 1 image 12 level 1 reads 0)\n";
     /// assert_eq!(monitor.load(order, text), Verdict::Number);
+    /// assert_eq!(monitor.tally(0), Some(Tally { granted: 2, slipped: 0, refused: 1 }));
     /// assert_eq!(monitor.mark(1), Verdict::Number);
     /// assert_eq!(monitor.mark(0), Verdict::Granted);
     /// ```
     pub fn load(&mut self, order: Order, text: &[u8]) -> Verdict {
-        let raw = ffi::load(&mut self.bytes[..], &mut self.words[..], &mut self.tally, order, text);
+        let (bytes, words) = (&mut self.bytes[..], &mut self.words[..]);
+        let raw = ffi::load(bytes, words, &mut self.tallies[..], order, text);
         let verdict = verdict(raw.verdict);
         if !matches!(verdict, Verdict::State | Verdict::Order) {
             self.order = order;
@@ -269,7 +349,7 @@ impl Monitor {
         self.perform(self.order, code::SPREAD, [])
     }
 
-    /// Tells which numbers are marked. It counts in no tally.
+    /// Tells which numbers are marked. It counts on no tally.
     pub fn report(&self) -> Report {
         let raw = ffi::report(&self.bytes[..], &self.words[..], self.order);
         Report::new(raw, verdict(raw.verdict))
@@ -284,8 +364,8 @@ impl Monitor {
         all[..N].copy_from_slice(&arguments);
         let [a, b, c, d, e] = all;
         let request = Request { code, a, b, c, d, e };
-        let raw =
-            ffi::perform(&mut self.bytes[..], &mut self.words[..], &mut self.tally, order, request);
+        let (bytes, words) = (&mut self.bytes[..], &mut self.words[..]);
+        let raw = ffi::perform(bytes, words, &mut self.tallies[..], order, request);
         Answer { verdict: verdict(raw.verdict), rounds: raw.rounds }
     }
 }
