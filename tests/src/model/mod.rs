@@ -10,7 +10,7 @@ mod tallies;
 pub use layout::{Drawer, Form, LAYOUT_BYTES, LAYOUT_DEPTH, calls, read_layout, written};
 pub use order::{at_or_below, passes};
 pub use state::{BYTES, Mark, Number, Object, Pairs, RECORD, State, THINGS, Task, Thing, WORDS};
-pub use tallies::{NOTHING_COUNTED, Tallies, raise};
+pub use tallies::{NOTHING_COUNTED, Tallies};
 
 use events::Event;
 use tupehiwo::ffi::{Answer, Order, Report, Request, code};

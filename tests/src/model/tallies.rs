@@ -31,7 +31,7 @@ impl Model {
 }
 
 /// Raises the count of a verdict, up to where counts stop.
-pub fn raise(tally: &mut Tally, verdict: u8) {
+fn raise(tally: &mut Tally, verdict: u8) {
     let count = match verdict {
         0 => &mut tally.granted,
         1 => &mut tally.slipped,
