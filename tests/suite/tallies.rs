@@ -3,11 +3,12 @@
 
 use std::ops::Range;
 
-use tupehiwo::ffi::{Answer, Order, Request, Tally, code};
+use tupehiwo::ffi::{self, Answer, Order, Request, Tally, code};
 use tupehiwo_tests::causes::how_many;
 use tupehiwo_tests::compare::Pair;
 use tupehiwo_tests::model::{
-    Lengths, Mark, NOTHING_COUNTED, Number, Object, State, THINGS, Tallies, Task, Thing,
+    BYTES, Lengths, Mark, NOTHING_COUNTED, Number, Object, State, THINGS, Tallies, Task, Thing,
+    WORDS,
 };
 use tupehiwo_tests::request;
 use tupehiwo_tests::rng::{Rng, seed};
@@ -484,6 +485,25 @@ fn a_load_with_a_list_of_another_length_changes_nothing() {
                 }
             }
         }
+    }
+}
+
+/// Cut to 8 or to 16 bits, these lengths would be 128.
+#[test]
+fn a_list_that_is_far_too_long_changes_nothing() {
+    let cast = Cast::of(1);
+    for length in [128 + 256, 128 + 65536] {
+        let (mut bytes, mut words) = ([0; BYTES], [0; WORDS]);
+        cast.state().write(&mut bytes, &mut words);
+        let mut tallies = vec![Tally { granted: 7, slipped: 8, refused: 9 }; length];
+        let before = (bytes, words, tallies.clone());
+        for call in cast.every_call() {
+            let answer = ffi::perform(&mut bytes, &mut words, &mut tallies, Q, call);
+            assert_eq!(answer, Answer { verdict: STATE, rounds: 0 }, "{call:?}");
+        }
+        let answer = ffi::load(&mut bytes, &mut words, &mut tallies, Q, b"");
+        assert_eq!(answer, Answer { verdict: STATE, rounds: 0 });
+        assert!((bytes, words, tallies) == before, "something changed");
     }
 }
 
