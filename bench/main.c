@@ -8,6 +8,8 @@
  *
  * With a word only the cases that have it in their names, and no growth.
  *
+ * A library that is lent one tally and not a list of them cannot be measured.
+ *
  * One line for each measurement: table, case, things in use, levels, rounds (or
  * the unsound record), and the times of plain C and of the proved library in
  * nanoseconds for each item.
@@ -97,6 +99,19 @@ static void measure_named(const char *word)
     }
 }
 
+/*
+ * Whether a start without a list is refused. A library that is lent one tally grants it: the
+ * length is handed over in a register that such a library does not read.
+ */
+static int is_lent_a_list(const struct side *side)
+{
+    struct world w = {.m = {.order = line_of(1)}};
+    struct tupehiwo_request start = {TUPEHIWO_CODE_START, 0, 0, 0, 0, 0};
+    return side->perform(w.m.bytes, TUPEHIWO_BYTES, w.m.words, TUPEHIWO_WORDS, w.m.tallies, 0,
+                         w.m.order, start)
+               .verdict == TUPEHIWO_STATE;
+}
+
 static int usage(void)
 {
     fprintf(stderr, "harness RUNS BATCHES [WORD], harness once [WORD], or harness script LINES\n");
@@ -118,6 +133,11 @@ int main(int words, char **word)
     }
     if (!once && !fit(effort))
         return usage();
+    for (unsigned s = 0; s < SIDES; s++)
+        if (!is_lent_a_list(&sides[s])) {
+            fprintf(stderr, "a library that is lent one tally cannot be measured\n");
+            return 2;
+        }
     if (words > rest)
         measure_named(word[rest]);
     else

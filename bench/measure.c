@@ -57,7 +57,7 @@ static int same_report(const struct tupehiwo_report *a, const struct tupehiwo_re
            a->verdict == b->verdict;
 }
 
-/* Part by part: what lies between the parts may be anything. */
+/* Part by part: the bytes that fill up the structure may hold anything. */
 static int same_memory(const struct tupehiwo_monitor *a, const struct tupehiwo_monitor *b)
 {
     return memcmp(a->bytes, b->bytes, sizeof a->bytes) == 0 &&

@@ -39,6 +39,20 @@ static void print_marked(const struct tupehiwo_monitor *m)
     printf("\n");
 }
 
+/*
+ * Whose calls there were: a refused one says whom to ring. Tally 0 has those of the core, and
+ * start, mark and spread.
+ */
+static void print_tallies(const struct tupehiwo_monitor *m)
+{
+    for (unsigned n = 0; n < TUPEHIWO_TALLIES; n++) {
+        struct tupehiwo_tally t = m->tallies[n];
+        if ((t.granted | t.slipped | t.refused) != 0)
+            printf("task %u: %u granted, %u slipped, %u refused\n", n, (unsigned)t.granted,
+                   (unsigned)t.slipped, (unsigned)t.refused);
+    }
+}
+
 int main(void)
 {
     static struct tupehiwo_monitor m; /* zeros, as a monitor begins */
@@ -52,7 +66,6 @@ int main(void)
     say("spread", answer.verdict);
     printf("%u rounds\n", answer.rounds);
     print_marked(&m);
-    printf("%u granted, %u slipped, %u refused\n", (unsigned)m.tally.granted,
-           (unsigned)m.tally.slipped, (unsigned)m.tally.refused);
+    print_tallies(&m);
     return 0;
 }

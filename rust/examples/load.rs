@@ -1,4 +1,4 @@
-//! Begin with the layout in a file, find a captured task, read the list.
+//! Begin with the layout in a file, find a captured task, read the list, and see whom to ring.
 //!
 //! ```text
 //! cargo run --example load -- ../examples/instrument.layout
@@ -10,7 +10,7 @@
 use std::process::ExitCode;
 use std::{env, fs};
 
-use tupehiwo::{Monitor, Order, Verdict, layout};
+use tupehiwo::{Monitor, Order, Tally, Verdict, layout};
 
 /// Each level is at or below the next.
 const ORDER: Order = Order::new(2, [0b111, 0b110, 0b100]);
@@ -40,6 +40,9 @@ fn story(monitor: &mut Monitor) {
     println!("spread in {} round", monitor.spread().rounds);
     let marked: Vec<String> = monitor.report().marked().map(|n| n.to_string()).collect();
     println!("marked {}", marked.join(" "));
+    for (task, Tally { granted, slipped, refused }) in monitor.refused() {
+        println!("task {task}: {granted} granted, {slipped} slipped, {refused} refused");
+    }
 }
 
 fn main() -> ExitCode {
