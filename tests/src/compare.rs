@@ -3,9 +3,7 @@
 use std::fmt;
 
 use crate::causes::{Loaded, Made};
-use crate::model::{
-    BYTES, Lengths, Model, Number, RECORD, State, THINGS, Tallies, Thing, WORDS,
-};
+use crate::model::{BYTES, Lengths, Model, Number, RECORD, State, THINGS, Tallies, Thing, WORDS};
 use crate::prefix;
 use crate::table::Table;
 use tupehiwo::ffi::{self, Answer, Order, Report, Request, Tally};

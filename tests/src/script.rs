@@ -42,10 +42,8 @@ struct Trail {
 
 /// All that the program prints for an input.
 pub fn output(input: &[u8]) -> Vec<u8> {
-    let mut trail = Trail {
-        model: Model::new(State::read(&[0; BYTES], &[0; WORDS])),
-        order: Order::default(),
-    };
+    let mut trail =
+        Trail { model: Model::new(State::read(&[0; BYTES], &[0; WORDS])), order: Order::default() };
     let mut printed: Vec<String> = lines(input).map(|line| trail.answer(read(line))).collect();
     printed.push(trail.marked());
     let mut text = printed.join("\n");

@@ -63,7 +63,7 @@ impl Cast {
             state.put(n, Thing::Task(Task { level: TOP, read_level: TOP, mark }));
         }
         for (n, container) in [(self.from, None), (self.to, None), (self.object, Some(self.from))] {
-            state.put(n, self.object(TOP, container));
+            state.put(n, self.driven(TOP, container));
         }
         let used: Vec<Number> = state.used().map(|(n, _)| n).collect();
         for pairs in [&mut state.flows, &mut state.reads, &mut state.writes] {
@@ -72,7 +72,7 @@ impl Cast {
         state
     }
 
-    fn object(&self, level: u16, container: Option<Number>) -> Thing {
+    fn driven(&self, level: u16, container: Option<Number>) -> Thing {
         Thing::Object(Object { level, driver: self.driver, container, marked: false })
     }
 
@@ -85,7 +85,7 @@ impl Cast {
         state.put(self.asker, Thing::Task(Task { level, read_level: level, mark }));
         let mark = Mark::Marked;
         state.put(self.driver, Thing::Task(Task { level: TOP, read_level: TOP, mark }));
-        state.put(self.object, self.object(2, Some(self.from)));
+        state.put(self.object, self.driven(2, Some(self.from)));
         state
     }
 
@@ -248,9 +248,7 @@ fn unfit(cast: &Cast, call: Request, place: usize) -> Vec<(Number, u8)> {
         (code::EXECUTE, 3 | 4) | (code::CREATE, 4) | (code::CREATE_ROOT, 3) => {
             [4].into_iter().chain(high).map(|level| (level, SCALE)).collect()
         }
-        (code::EXECUTE | code::CREATE | code::CREATE_ROOT, 2) => {
-            high.map(|n| (n, NUMBER)).into()
-        }
+        (code::EXECUTE | code::CREATE | code::CREATE_ROOT, 2) => high.map(|n| (n, NUMBER)).into(),
         _ => high.into_iter().chain([cast.free]).map(|n| (n, NUMBER)).collect(),
     }
 }
@@ -277,7 +275,7 @@ fn an_object_or_a_free_number_that_asks_counts_on_record_0() {
     let mut ledger = Ledger::new("an_object_or_a_free_number_that_asks_counts_on_record_0");
     for asker in numbers().skip(1) {
         let cast = Cast::of(asker);
-        for thing in [cast.object(TOP, None), Thing::Free] {
+        for thing in [cast.driven(TOP, None), Thing::Free] {
             let mut state = cast.state();
             state.put(asker, thing);
             for call in cast.asked() {
