@@ -248,7 +248,10 @@ static inline struct tupehiwo_answer tupehiwo_do(struct tupehiwo_monitor *m, uin
                             TUPEHIWO_TALLIES, m->order, request);
 }
 
-/* Begins anew under an order: the core alone. A refused start keeps the old order. */
+/*
+ * Begins anew under an order: the core alone, and no call counted but this. A refused
+ * start keeps the old order.
+ */
 static inline uint8_t tupehiwo_start(struct tupehiwo_monitor *m, struct tupehiwo_order order)
 {
     struct tupehiwo_request request = {TUPEHIWO_CODE_START, 0, 0, 0, 0, 0};
@@ -261,9 +264,9 @@ static inline uint8_t tupehiwo_start(struct tupehiwo_monitor *m, struct tupehiwo
 }
 
 /*
- * Begins anew with a layout under an order. Refused with TUPEHIWO_ORDER it keeps the
- * memory and the old order; refused otherwise it leaves the core alone, as a start
- * does, under the new one.
+ * Begins anew with a layout under an order. Refused with TUPEHIWO_ORDER it keeps
+ * bytes, words and the old order; refused otherwise it leaves the core alone, as a
+ * start does, under the new one, and the tallies of before with one refusal more.
  */
 static inline uint8_t tupehiwo_monitor_load(struct tupehiwo_monitor *m,
                                             struct tupehiwo_order order, const void *text,
