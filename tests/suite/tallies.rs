@@ -309,11 +309,14 @@ fn a_call_that_no_task_asks_for_counts_on_record_0() {
         for (call, verdict) in cast.unasked() {
             ledger.must_raise(0, verdict, &state, call);
         }
-        for first in [cast.free, cast.object, 128 + asker, 65535] {
-            ledger.must_raise(0, NUMBER, &state, request(code::MARK, &[first]));
+        for code in [code::MARK, code::STEP] {
+            for unfit in [cast.free, 128, 129, 255, 256, 65535, 128 + asker] {
+                ledger.must_raise(0, NUMBER, &state, request(code, &[unfit]));
+            }
         }
+        ledger.must_raise(0, NUMBER, &state, request(code::MARK, &[cast.object]));
+        ledger.must_raise(0, GRANTED, &state, request(code::STEP, &[cast.object]));
         ledger.must_raise(0, STILL, &state, request(code::STEP, &[cast.other]));
-        ledger.must_raise(0, NUMBER, &state, request(code::STEP, &[cast.free]));
     }
 }
 
@@ -430,11 +433,9 @@ fn a_refused_load_zeroes_nothing_and_counts_on_record_0() {
                 (short, Q, STATE),
                 (short, FAILING, STATE),
             ] {
-                for _ in 0..10 {
-                    let before = ledger.lend(&state);
-                    assert_eq!(ledger.pair.load_with(lengths, order, &text).verdict, verdict);
-                    assert!(ledger.pair.tallies() == raised(before, 0, verdict), "{verdict}");
-                }
+                let before = ledger.lend(&state);
+                assert_eq!(ledger.pair.load_with(lengths, order, &text).verdict, verdict);
+                assert!(ledger.pair.tallies() == raised(before, 0, verdict), "{verdict}");
             }
         }
     }
