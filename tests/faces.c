@@ -6,8 +6,8 @@
 #include "calls.h"
 
 static struct {
-    const void *bytes, *words, *tally;
-    size_t nbytes, nwords;
+    const void *bytes, *words, *tallies;
+    size_t nbytes, nwords, ntallies;
     struct tupehiwo_order order;
     struct tupehiwo_request request;
     const void *text;
@@ -16,8 +16,8 @@ static struct {
 } lent;
 
 struct tupehiwo_answer tupehiwo_perform(uint8_t *bytes, size_t nbytes, uint64_t *words,
-                                        size_t nwords, struct tupehiwo_tally *tally,
-                                        struct tupehiwo_order order,
+                                        size_t nwords, struct tupehiwo_tally *tallies,
+                                        size_t ntallies, struct tupehiwo_order order,
                                         struct tupehiwo_request request)
 {
     struct tupehiwo_answer answer = {lent.verdict, 99};
@@ -25,21 +25,22 @@ struct tupehiwo_answer tupehiwo_perform(uint8_t *bytes, size_t nbytes, uint64_t 
     lent.nbytes = nbytes;
     lent.words = words;
     lent.nwords = nwords;
-    lent.tally = tally;
+    lent.tallies = tallies;
+    lent.ntallies = ntallies;
     lent.order = order;
     lent.request = request;
     return answer;
 }
 
 struct tupehiwo_answer tupehiwo_load(uint8_t *bytes, size_t nbytes, uint64_t *words,
-                                     size_t nwords, struct tupehiwo_tally *tally,
-                                     struct tupehiwo_order order, const uint8_t *text,
-                                     size_t ntext)
+                                     size_t nwords, struct tupehiwo_tally *tallies,
+                                     size_t ntallies, struct tupehiwo_order order,
+                                     const uint8_t *text, size_t ntext)
 {
     const struct tupehiwo_request none = {0, 0, 0, 0, 0, 0};
     lent.text = text;
     lent.ntext = ntext;
-    return tupehiwo_perform(bytes, nbytes, words, nwords, tally, order, none);
+    return tupehiwo_perform(bytes, nbytes, words, nwords, tallies, ntallies, order, none);
 }
 
 struct tupehiwo_report tupehiwo_report(const uint8_t *bytes, size_t nbytes,
@@ -61,13 +62,19 @@ static int memory_of(const struct tupehiwo_monitor *m)
            lent.nwords == 768 && memcmp(&lent.order, &m->order, sizeof m->order) == 0;
 }
 
+static int list_of(const struct tupehiwo_monitor *m)
+{
+    return lent.tallies == m->tallies && lent.ntallies == 128 &&
+           sizeof m->tallies == 128 * sizeof m->tallies[0];
+}
+
 /* The verdict came back, and the request had this code and these arguments. */
 static void expect_request(const struct tupehiwo_monitor *m, uint8_t verdict, const char *what,
                            uint16_t code, const uint64_t *numbers)
 {
     const struct tupehiwo_request q = lent.request;
     const uint64_t given[MOST_NUMBERS] = {q.a, q.b, q.c, q.d, q.e};
-    expect(memory_of(m) && lent.tally == &m->tally, what);
+    expect(memory_of(m) && list_of(m), what);
     expect(verdict == lent.verdict && q.code == code, what);
     expect(memcmp(given, numbers, sizeof given) == 0, what);
     lent.verdict++;
@@ -151,7 +158,7 @@ static void check_load(struct tupehiwo_monitor *m)
         expect(memcmp(&lent.order, &orders[1], sizeof lent.order) == 0, "a load's order");
         expect(memcmp(&m->order, &orders[!kept], sizeof m->order) == 0, "order after a load");
         m->order = lent.order;
-        expect(memory_of(m) && lent.tally == &m->tally, "the memory of a load");
+        expect(memory_of(m) && list_of(m), "the memory of a load");
         expect(lent.text == text && lent.ntext == sizeof text - 1, "the text of a load");
     }
 }

@@ -47,19 +47,19 @@ __attribute__((constructor)) static void plug(void)
 }
 
 struct tupehiwo_answer tupehiwo_perform(uint8_t *bytes, size_t nbytes, uint64_t *words,
-                                        size_t nwords, struct tupehiwo_tally *tally,
-                                        struct tupehiwo_order order,
+                                        size_t nwords, struct tupehiwo_tally *tallies,
+                                        size_t ntallies, struct tupehiwo_order order,
                                         struct tupehiwo_request request)
 {
-    return monitor.perform(bytes, nbytes, words, nwords, tally, order, request);
+    return monitor.perform(bytes, nbytes, words, nwords, tallies, ntallies, order, request);
 }
 
 struct tupehiwo_answer tupehiwo_load(uint8_t *bytes, size_t nbytes, uint64_t *words,
-                                     size_t nwords, struct tupehiwo_tally *tally,
-                                     struct tupehiwo_order order, const uint8_t *text,
-                                     size_t ntext)
+                                     size_t nwords, struct tupehiwo_tally *tallies,
+                                     size_t ntallies, struct tupehiwo_order order,
+                                     const uint8_t *text, size_t ntext)
 {
-    return monitor.load(bytes, nbytes, words, nwords, tally, order, text, ntext);
+    return monitor.load(bytes, nbytes, words, nwords, tallies, ntallies, order, text, ntext);
 }
 
 struct tupehiwo_checked tupehiwo_layout(const uint8_t *text, size_t ntext)

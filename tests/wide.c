@@ -1,7 +1,8 @@
 /*
  * Numbers that do not fit 16 bits, through the inline functions of the header
- * and the library: refused in their place of the table, and nothing is changed.
- * Compiled as C and as C++.
+ * and the library: refused in their place of the table, and nothing is changed but
+ * one count, of the task that asks or, where none does, of the core. Compiled as C
+ * and as C++.
  */
 #include "calls.h"
 
@@ -29,17 +30,24 @@ static void build(struct tupehiwo_monitor *m)
     }
 }
 
-/* Refused with this verdict: but for the count of refusals, all is as before. */
+/* Refused with this verdict: but for the asker's count of refusals, all is as before. */
 static void expect_refused(const struct tupehiwo_monitor *m, uint8_t given, uint8_t verdict,
-                           const struct tupehiwo_monitor *before, const char *what)
+                           uint64_t asker, const struct tupehiwo_monitor *before,
+                           const char *what)
 {
     struct tupehiwo_monitor counted = *before;
-    counted.tally.refused++;
+    counted.tallies[asker].refused++;
     expect(given == verdict, what);
     expect(memcmp(m->bytes, counted.bytes, sizeof m->bytes) == 0, what);
     expect(memcmp(m->words, counted.words, sizeof m->words) == 0, what);
-    expect(memcmp(&m->tally, &counted.tally, sizeof m->tally) == 0, what);
+    expect(memcmp(m->tallies, counted.tallies, sizeof m->tallies) == 0, what);
     expect(memcmp(&m->order, &counted.order, sizeof m->order) == 0, what);
+}
+
+/* Whom a call with its fit numbers counts on. */
+static uint64_t asker(const struct call *call)
+{
+    return call->code <= TUPEHIWO_CODE_FIND ? call->fit[0] : 0;
 }
 
 /* Every call, place and wide number; the verdict for things, and that for levels. */
@@ -52,7 +60,9 @@ static void check_calls(const struct tupehiwo_monitor *before, uint8_t thing, ui
                 uint64_t number = wide(which, calls[i].fit[place]);
                 uint8_t given = ask_with(&m, &calls[i], place, number);
                 uint8_t verdict = place < calls[i].things ? thing : level;
-                expect_refused(&m, given, verdict, before, calls[i].name);
+                int asked = place > 0 && verdict > TUPEHIWO_ORDER;
+                expect_refused(&m, given, verdict, asked ? asker(&calls[i]) : 0, before,
+                               calls[i].name);
             }
 }
 
@@ -63,7 +73,7 @@ static void check_codes(const struct tupehiwo_monitor *before, uint8_t verdict)
         for (unsigned which = 0; which < WIDE; which++) {
             struct tupehiwo_monitor m = *before;
             uint8_t given = tupehiwo_do(&m, wide(which, code), 1, 2, 127, 0, 0).verdict;
-            expect_refused(&m, given, verdict, before, "a wide code");
+            expect_refused(&m, given, verdict, 0, before, "a wide code");
         }
 }
 
@@ -72,7 +82,9 @@ static void check_fit_numbers(const struct tupehiwo_monitor *before)
 {
     for (unsigned i = 0; i < CALLS; i++) {
         struct tupehiwo_monitor m = *before;
+        uint64_t n = asker(&calls[i]);
         expect(calls[i].ask(&m, calls[i].fit) == TUPEHIWO_GRANTED, calls[i].name);
+        expect(m.tallies[n].granted == before->tallies[n].granted + 1, calls[i].name);
     }
 }
 
@@ -82,13 +94,13 @@ static void check_rows_of_levels(const struct tupehiwo_monitor *before)
     const uint64_t level = 65536;
     struct tupehiwo_monitor m = *before;
     uint8_t given = tupehiwo_execute(&m, 0, 10, 11, level, 0);
-    expect_refused(&m, given, TUPEHIWO_TAKEN, before, "a wide level of a taken number");
+    expect_refused(&m, given, TUPEHIWO_TAKEN, 0, before, "a wide level of a taken number");
     m = *before;
     given = tupehiwo_create(&m, 2, 0, 126, 10, level);
-    expect_refused(&m, given, TUPEHIWO_HELD, before, "a wide level without the access");
+    expect_refused(&m, given, TUPEHIWO_HELD, 2, before, "a wide level without the access");
     m = *before;
     given = tupehiwo_execute(&m, 0, 127, 126, 3, level);
-    expect_refused(&m, given, TUPEHIWO_SCALE, before, "a wide level over the image");
+    expect_refused(&m, given, TUPEHIWO_SCALE, 0, before, "a wide level over the image");
 }
 
 int main(void)

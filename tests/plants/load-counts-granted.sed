@@ -1,1 +1,1 @@
-/^struct tupehiwo_answer baseline_load(/,/^}/s/^    raise(tally, answer.verdict);/    raise(tally, TUPEHIWO_GRANTED);/
+/^struct tupehiwo_answer baseline_load(/,/^}/s/^    raise(&tallies\[0\], answer.verdict);/    raise(\&tallies[0], TUPEHIWO_GRANTED);/

@@ -1,1 +1,1 @@
-/^struct tupehiwo_answer baseline_load(/,/^}/s/{fit(bytes, nbytes, nwords, &order, 1), 0}/{fit(bytes, nbytes, nwords, \&order, 1), 0};\n    if (answer.verdict == TUPEHIWO_ORDER \&\& check_layout(text, ntext).verdict == TUPEHIWO_FORM)\n        answer.verdict = TUPEHIWO_FORM/
+/^struct tupehiwo_answer baseline_load(/,/^}/s/^    answer.verdict = fit(bytes, nbytes, nwords, &order, 1);/&\n    if (answer.verdict == TUPEHIWO_ORDER \&\& check_layout(text, ntext).verdict == TUPEHIWO_FORM)\n        answer.verdict = TUPEHIWO_FORM;/

@@ -1,1 +1,1 @@
-/^struct tupehiwo_answer baseline_load(/,/^}/s/^            if (answer.verdict != TUPEHIWO_GRANTED)/            if (0)/
+/^struct tupehiwo_answer baseline_load(/,/^}/s/^                start(&s);/                ;/

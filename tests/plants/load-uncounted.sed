@@ -1,1 +1,1 @@
-/^struct tupehiwo_answer baseline_load(/,/^}/s/^    raise(tally, answer.verdict);/    ;/
+/^struct tupehiwo_answer baseline_load(/,/^}/s/^    raise(&tallies\[0\], answer.verdict);/    ;/

@@ -9,7 +9,7 @@ use crate::model::{BYTES, Lengths, Model, State, WORDS};
 use crate::rng::Rng;
 use crate::script::line_of;
 use crate::worlds;
-use tupehiwo::ffi::{Order, Request, Tally, code};
+use tupehiwo::ffi::{Order, Request, code};
 
 /// An input and what it must print.
 pub struct Case {
@@ -212,8 +212,7 @@ pub fn stories() -> Vec<Case> {
 /// A script whose calls look at the state.
 pub fn random_script(rng: &mut Rng, lines: usize) -> Vec<u8> {
     let pool: Vec<u16> = (1..30).chain(120..128).collect();
-    let state = State::read(&[0; BYTES], &[0; WORDS]);
-    let mut model = Model { state, tally: Tally::default() };
+    let mut model = Model::new(State::read(&[0; BYTES], &[0; WORDS]));
     let mut order = Order::default();
     let mut script = String::new();
     for line in 0..lines {

@@ -3,7 +3,7 @@
 use std::fmt;
 
 use crate::causes::{Loaded, Made};
-use crate::model::{BYTES, Lengths, Model, Number, RECORD, State, Thing, WORDS};
+use crate::model::{BYTES, Lengths, Model, Number, RECORD, State, THINGS, Tallies, Thing, WORDS};
 use crate::prefix;
 use crate::table::Table;
 use tupehiwo::ffi::{self, Answer, Order, Report, Request, Tally};
@@ -13,6 +13,51 @@ use tupehiwo::ffi::{self, Answer, Order, Report, Request, Tally};
 const MARGIN: usize = 61;
 const MARGIN_BYTE: u8 = 0xA5;
 const MARGIN_WORD: u64 = 0xA5A5_5A5A_A5A5_5A5A;
+const MARGIN_TALLY: Tally = Tally { granted: 0xA5A5, slipped: 0x5A5A, refused: 0xA55A };
+/// A list twice as long as it must be can be lent.
+const TALLIES: usize = 2 * THINGS;
+
+/// What calls are lent, and the margins around it.
+#[derive(Clone, PartialEq, Eq)]
+pub struct Memory {
+    bytes: Vec<u8>,
+    words: Vec<u64>,
+    tallies: Vec<Tally>,
+}
+
+impl Memory {
+    fn new() -> Memory {
+        Memory {
+            bytes: vec![MARGIN_BYTE; MARGIN + BYTES + MARGIN],
+            words: vec![MARGIN_WORD; MARGIN + WORDS + MARGIN],
+            tallies: vec![MARGIN_TALLY; MARGIN + TALLIES + MARGIN],
+        }
+    }
+
+    fn set_state(&mut self, state: &State) {
+        state.write(&mut self.bytes[MARGIN..][..BYTES], &mut self.words[MARGIN..][..WORDS]);
+    }
+
+    fn set_tallies(&mut self, tallies: &Tallies) {
+        self.tallies[MARGIN..][..THINGS].copy_from_slice(tallies);
+    }
+
+    /// As much as `lengths` say.
+    fn lend(&mut self, lengths: Lengths) -> (&mut [u8], &mut [u64], &mut [Tally]) {
+        (
+            &mut self.bytes[MARGIN..][..lengths.bytes],
+            &mut self.words[MARGIN..][..lengths.words],
+            &mut self.tallies[MARGIN..][..lengths.tallies],
+        )
+    }
+
+    /// Where the library's memory is not the model's.
+    fn difference(&self, model: &Memory) -> Option<String> {
+        first_difference(&self.tallies, &model.tallies, "tally")
+            .or_else(|| first_difference(&self.bytes, &model.bytes, "byte"))
+            .or_else(|| first_difference(&self.words, &model.words, "word"))
+    }
+}
 
 /// Both on the same memory: each call is made of both, and everything that it
 /// answers and leaves must be equal.
@@ -22,32 +67,28 @@ pub struct Pair {
     /// Said when the two differ: how to find the place again.
     label: String,
     calls: usize,
-    bytes: Vec<u8>,
-    words: Vec<u64>,
-    tally: Tally,
-    /// What the model says that bytes and words are.
-    expected_bytes: Vec<u8>,
-    expected_words: Vec<u64>,
+    memory: Memory,
+    /// What the model says that the memory is.
+    expected: Memory,
 }
 
 impl Pair {
-    /// Memory of zeros.
+    /// Memory of zeros, and a list in which no two records are alike.
     pub fn new(label: impl Into<String>) -> Pair {
-        let bytes = vec![MARGIN_BYTE; MARGIN + BYTES + MARGIN];
-        let words = vec![MARGIN_WORD; MARGIN + WORDS + MARGIN];
         let state = State::read(&[0; BYTES], &[0; WORDS]);
         let mut pair = Pair {
-            model: Model { state: state.clone(), tally: Tally::default() },
+            model: Model::new(state.clone()),
             table: Table::default(),
             label: label.into(),
             calls: 0,
-            expected_bytes: bytes.clone(),
-            expected_words: words.clone(),
-            bytes,
-            words,
-            tally: Tally::default(),
+            memory: Memory::new(),
+            expected: Memory::new(),
         };
         pair.set_state(state);
+        pair.set_tallies(std::array::from_fn(|n| {
+            let n = n as u32;
+            Tally { granted: 1000 + n, slipped: 2000 + n, refused: 3000 + n }
+        }));
         pair
     }
 
@@ -61,42 +102,53 @@ impl Pair {
 
     /// Puts other memory in the place of what the calls left.
     pub fn set_state(&mut self, state: State) {
-        state.write(&mut self.bytes[MARGIN..][..BYTES], &mut self.words[MARGIN..][..WORDS]);
+        self.memory.set_state(&state);
         self.model.state = state;
     }
 
     /// Puts another byte in the place of what the calls left, sound or not.
     pub fn set_byte(&mut self, place: usize, value: u8) {
-        self.bytes[MARGIN + place] = value;
+        self.memory.bytes[MARGIN + place] = value;
         let record = place - place % RECORD;
-        let bytes = &self.bytes[MARGIN + record..][..RECORD];
+        let bytes = &self.memory.bytes[MARGIN + record..][..RECORD];
         self.model.state.things[place / RECORD] = Thing::read(bytes);
     }
 
-    pub fn set_tally(&mut self, tally: Tally) {
-        self.tally = tally;
-        self.model.tally = tally;
+    /// Puts another list in the place of what the calls left.
+    pub fn set_tallies(&mut self, tallies: Tallies) {
+        self.memory.set_tallies(&tallies);
+        self.model.tallies = tallies;
+    }
+
+    /// All that the library left, with what is around it.
+    pub fn memory(&self) -> &Memory {
+        &self.memory
+    }
+
+    /// The library's list.
+    pub fn tallies(&self) -> &[Tally] {
+        &self.memory.tallies[MARGIN..][..THINGS]
     }
 
     /// The library's byte of a record.
     pub fn byte(&self, place: usize) -> u8 {
-        self.bytes[MARGIN + place]
+        self.memory.bytes[MARGIN + place]
     }
 
     /// Whether the library has recorded this flow.
     pub fn has_flow(&self, from: Number, to: Number) -> bool {
         let word = 2 * usize::from(from) + usize::from(to) / 64;
-        self.words[MARGIN + word] >> (to % 64) & 1 == 1
+        self.memory.words[MARGIN + word] >> (to % 64) & 1 == 1
     }
 
     /// Whether the library left the same bytes and words to both.
     pub fn has_memory_of(&self, other: &Pair) -> bool {
-        self.bytes == other.bytes && self.words == other.words
+        self.memory.bytes == other.memory.bytes && self.memory.words == other.memory.words
     }
 
     /// How many flows the library has recorded.
     pub fn flows(&self) -> u32 {
-        self.words[MARGIN..][..256].iter().map(|word| word.count_ones()).sum()
+        self.memory.words[MARGIN..][..256].iter().map(|word| word.count_ones()).sum()
     }
 
     /// One call on memory of the right lengths, and a report after it.
@@ -107,13 +159,8 @@ impl Pair {
     /// One call that is lent as much as `lengths` say, and a report after it.
     pub fn perform_with(&mut self, lengths: Lengths, order: Order, request: Request) -> Answer {
         self.calls += 1;
-        let answer = ffi::perform(
-            &mut self.bytes[MARGIN..][..lengths.bytes],
-            &mut self.words[MARGIN..][..lengths.words],
-            &mut self.tally,
-            order,
-            request,
-        );
+        let (bytes, words, tallies) = self.memory.lend(lengths);
+        let answer = ffi::perform(bytes, words, tallies, order, request);
         let expected = self.model.perform(lengths, &order, request);
         if answer != expected {
             self.differ(&order, &request, &format!("answers {answer:?}, model {expected:?}"));
@@ -135,13 +182,8 @@ impl Pair {
     pub fn load_with(&mut self, lengths: Lengths, order: Order, text: &[u8]) -> Answer {
         self.calls += 1;
         let asked = Text(text);
-        let answer = ffi::load(
-            &mut self.bytes[MARGIN..][..lengths.bytes],
-            &mut self.words[MARGIN..][..lengths.words],
-            &mut self.tally,
-            order,
-            text,
-        );
+        let (bytes, words, tallies) = self.memory.lend(lengths);
+        let answer = ffi::load(bytes, words, tallies, order, text);
         let (expected, ended) = self.model.load(lengths, &order, text);
         if answer != expected {
             self.differ(&order, &asked, &format!("answers {answer:?}, model {expected:?}"));
@@ -166,19 +208,9 @@ impl Pair {
     }
 
     fn compare_memory(&mut self, order: &Order, request: &dyn fmt::Debug) {
-        if self.tally != self.model.tally {
-            let (ours, model) = (self.tally, self.model.tally);
-            self.differ(order, request, &format!("tally {ours:?}, model {model:?}"));
-        }
-        let expected_bytes = &mut self.expected_bytes[MARGIN..][..BYTES];
-        let expected_words = &mut self.expected_words[MARGIN..][..WORDS];
-        self.model.state.write(expected_bytes, expected_words);
-        if self.bytes != self.expected_bytes {
-            let fault = first_difference(&self.bytes, &self.expected_bytes, "byte");
-            self.differ(order, request, &fault);
-        }
-        if self.words != self.expected_words {
-            let fault = first_difference(&self.words, &self.expected_words, "word");
+        self.expected.set_state(&self.model.state);
+        self.expected.set_tallies(&self.model.tallies);
+        if let Some(fault) = self.memory.difference(&self.expected) {
             self.differ(order, request, &fault);
         }
     }
@@ -202,8 +234,8 @@ impl Pair {
 
     /// The library's report alone.
     pub fn report_with(&self, lengths: Lengths, order: Order) -> Report {
-        let bytes = &self.bytes[MARGIN..][..lengths.bytes];
-        let words = &self.words[MARGIN..][..lengths.words];
+        let bytes = &self.memory.bytes[MARGIN..][..lengths.bytes];
+        let words = &self.memory.words[MARGIN..][..lengths.words];
         ffi::report(bytes, words, order)
     }
 
@@ -231,11 +263,18 @@ pub fn next_marked(report: &Report, from: Number) -> Number {
     (from..128).find(marked).unwrap_or(128)
 }
 
-fn first_difference<T: PartialEq + std::fmt::Debug>(ours: &[T], model: &[T], unit: &str) -> String {
-    let place = ours.iter().zip(model).position(|(a, b)| a != b).expect("the two differ");
+fn first_difference<T: PartialEq + fmt::Debug>(
+    ours: &[T],
+    model: &[T],
+    unit: &str,
+) -> Option<String> {
+    if ours == model {
+        return None;
+    }
+    let place = ours.iter().zip(model).position(|(a, b)| a != b)?;
     let (a, b) = (&ours[place], &model[place]);
-    match place.checked_sub(MARGIN) {
+    Some(match place.checked_sub(MARGIN) {
         Some(place) => format!("leaves {unit} {place} as {a:?}, model {b:?}"),
         None => format!("writes before the first {unit} lent"),
-    }
+    })
 }

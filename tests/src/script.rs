@@ -3,7 +3,7 @@
 use crate::compare::next_marked;
 use crate::model::{BYTES, Lengths, Model, State, WORDS};
 use crate::request;
-use tupehiwo::ffi::{Order, Request, Tally, code};
+use tupehiwo::ffi::{Order, Request, code};
 
 /// Each word but start, with its code and how many numbers follow it.
 const WORDS_OF_CALLS: [(&str, u16, usize); 15] = [
@@ -42,10 +42,8 @@ struct Trail {
 
 /// All that the program prints for an input.
 pub fn output(input: &[u8]) -> Vec<u8> {
-    let mut trail = Trail {
-        model: Model { state: State::read(&[0; BYTES], &[0; WORDS]), tally: Tally::default() },
-        order: Order::default(),
-    };
+    let mut trail =
+        Trail { model: Model::new(State::read(&[0; BYTES], &[0; WORDS])), order: Order::default() };
     let mut printed: Vec<String> = lines(input).map(|line| trail.answer(read(line))).collect();
     printed.push(trail.marked());
     let mut text = printed.join("\n");

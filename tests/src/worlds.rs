@@ -3,7 +3,7 @@
 use std::ops::Range;
 
 use crate::model::{
-    Lengths, Mark, Number, Object, Pairs, State, THINGS, Task, Thing, at_or_below, passes,
+    Lengths, Mark, Number, Object, Pairs, State, THINGS, Tallies, Task, Thing, at_or_below, passes,
 };
 use crate::rng::{Rng, seed};
 use tupehiwo::ffi::{Order, Tally};
@@ -72,25 +72,26 @@ pub fn failing_order(rng: &mut Rng, near: Order) -> Order {
     }
 }
 
-/// The right lengths, and once in a hundred wrong ones.
+/// The right lengths, and three times in two hundred a wrong one.
 pub fn lengths(rng: &mut Rng) -> Lengths {
     let mut lengths = Lengths::RIGHT;
     match rng.below(200) {
         0 => lengths.bytes = rng.pick(&[0, 8, 1016, 1023, 1025]),
         1 => lengths.words = rng.pick(&[0, 2, 512, 767, 769]),
+        2 => lengths.tallies = rng.pick(&[0, 1, 127, 129, 256]),
         _ => {}
     }
     lengths
 }
 
-/// Counts near to their stop half of the time, each by itself.
-pub fn tally(rng: &mut Rng) -> Tally {
+/// Counts in every record, near to their stop half of the time, each by itself.
+pub fn tallies(rng: &mut Rng) -> Tallies {
     let mut count = || match rng.below(4) {
         0 => u32::MAX - rng.below(4) as u32,
         1 => u32::MAX - rng.below(1000) as u32,
         _ => rng.below(1000) as u32,
     };
-    Tally { granted: count(), slipped: count(), refused: count() }
+    std::array::from_fn(|_| Tally { granted: count(), slipped: count(), refused: count() })
 }
 
 /// Sound memory under an order, which calls need not reach: any levels, drivers,

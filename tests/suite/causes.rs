@@ -54,7 +54,7 @@ impl Scene {
                 let code = if code > code::SPREAD { author.unknown_code() } else { code };
                 let request = author.request_of(code);
                 let lengths = Lengths::RIGHT;
-                let mut model = Model { state: state.clone(), tally: Default::default() };
+                let mut model = Model::new(state.clone());
                 let verdict = model.perform(lengths, &order, request).verdict;
                 if verdict == 0 || code > code::SPREAD {
                     return Scene { state, order, lengths, request, damage: vec![] };
@@ -185,8 +185,9 @@ impl Scene {
         self.damage.push((8 * n + rng.below(8), value));
     }
 
-    /// Makes the call of the library and the model.
-    fn perform(self, pair: &mut Pair) {
+    /// Makes the call of the library and the model, on any list.
+    fn perform(self, rng: &mut Rng, pair: &mut Pair) {
+        pair.set_tallies(worlds::tallies(rng));
         pair.set_state(self.state);
         for (place, value) in self.damage {
             pair.set_byte(place, value);
@@ -201,11 +202,11 @@ fn nearly_granted(seed: u64, code: u16) -> Table {
     let mut pair = Pair::new(format!("code {code} from the seed {seed}"));
     for _ in 0..granted_calls(code) {
         let scene = Scene::granted(&mut rng, code);
-        scene.clone().perform(&mut pair);
+        scene.clone().perform(&mut rng, &mut pair);
         for _ in 0..CHANGES {
             let mut changed = scene.clone();
             (0..1 + rng.below(2)).for_each(|_| changed.change(&mut rng));
-            changed.perform(&mut pair);
+            changed.perform(&mut rng, &mut pair);
         }
     }
     pair.table
@@ -231,6 +232,7 @@ fn nearly_loaded(seed: u64) -> Table {
             9 => lengths = worlds::lengths(&mut rng),
             _ => texts::damage(&mut rng, &mut text),
         }
+        pair.set_tallies(worlds::tallies(&mut rng));
         pair.load_with(lengths, lent, &text);
     }
     pair.table

@@ -1,5 +1,7 @@
 //! The safe Rust face: each method makes the call that it names.
 
+use std::collections::BTreeSet;
+
 use tupehiwo::ffi::{Order, Request, code};
 use tupehiwo::{Answer, Monitor, Verdict, layout};
 use tupehiwo_tests::author::Author;
@@ -38,7 +40,7 @@ fn must_agree(monitor: &Monitor, model: &Model, order: &Order) {
     let (mut bytes, mut words) = ([0; BYTES], [0; WORDS]);
     model.state.write(&mut bytes, &mut words);
     assert!(*monitor.bytes() == bytes && *monitor.words() == words);
-    assert_eq!(monitor.tally(), model.tally);
+    assert!(*monitor.tallies() == model.tallies);
     assert_eq!(monitor.order(), *order);
     let (report, expected) = (monitor.report(), model.report(Lengths::RIGHT, order));
     assert_eq!(report.verdict() as u8, expected.verdict);
@@ -48,16 +50,22 @@ fn must_agree(monitor: &Monitor, model: &Model, order: &Order) {
     assert!(report.marked().eq(marked));
 }
 
+/// A monitor of zeros but for its list, and the model of it.
+fn both(rng: &mut Rng) -> (Monitor, Model) {
+    let tallies = worlds::tallies(rng);
+    let monitor = Monitor::from_memory([0; BYTES], [0; WORDS], tallies, Order::default());
+    let state = State::read(monitor.bytes(), monitor.words());
+    (monitor, Model { state, tallies })
+}
+
 #[test]
 fn each_method_makes_its_call() {
     let first = seed("each_method_makes_its_call");
     let pool: Vec<u16> = (1..20).chain(120..128).collect();
     for number in 0..40 {
         let mut rng = Rng::new(first.wrapping_add(number));
-        let mut monitor = Monitor::new();
+        let (mut monitor, mut model) = both(&mut rng);
         let mut order = Order::default();
-        let state = State::read(monitor.bytes(), monitor.words());
-        let mut model = Model { state, tally: monitor.tally() };
         for call in 0..600 {
             let mut author =
                 Author { rng: &mut rng, state: &model.state, order: &order, pool: &pool };
@@ -84,10 +92,8 @@ fn each_method_makes_its_call() {
 #[test]
 fn a_load_makes_its_state() {
     let mut rng = Rng::new(seed("a_load_makes_its_state"));
-    let mut monitor = Monitor::new();
+    let (mut monitor, mut model) = both(&mut rng);
     let mut order = Order::default();
-    let state = State::read(monitor.bytes(), monitor.words());
-    let mut model = Model { state, tally: monitor.tally() };
     for _ in 0..2000 {
         let usual = worlds::order(&mut rng);
         let failing = rng.once_in(4);
@@ -134,13 +140,32 @@ fn a_text_is_checked() {
     assert!(faults.iter().all(|&count| count > 100), "{faults:?}");
 }
 
+/// Each tally by its number, and whom to ring: those that were refused, rising.
+#[test]
+fn tallies_are_told() {
+    let mut rng = Rng::new(seed("tallies_are_told"));
+    for share in [1, 2, 40, 1000].repeat(20) {
+        let mut tallies = worlds::tallies(&mut rng);
+        let refused: BTreeSet<u16> = (0..128).filter(|_| rng.once_in(share)).collect();
+        for (n, tally) in (0..).zip(&mut tallies) {
+            let counted = rng.pick(&[1, 2, 1 << 16, 1 << 31, u32::MAX]);
+            tally.refused = if refused.contains(&n) { counted } else { 0 };
+        }
+        let monitor = Monitor::from_memory([0; BYTES], [0; WORDS], tallies, Order::default());
+        assert!((0..128).map(|n| monitor.tally(n)).eq(tallies.map(Some)));
+        assert!([128, 129, 255, 256, 65535].iter().all(|&n| monitor.tally(n).is_none()));
+        let told = refused.iter().map(|&n| (n, tallies[usize::from(n)]));
+        assert!(monitor.refused().eq(told), "{refused:?}");
+    }
+}
+
 #[test]
 fn memory_can_be_handed_on() {
     let mut first = Monitor::new();
     assert_eq!(first.start(worlds::Q), Verdict::Granted);
     assert_eq!(first.create_root(0, 0, 9, 2), Verdict::Granted);
-    let mut second =
-        Monitor::from_memory(*first.bytes(), *first.words(), first.tally(), first.order());
+    let (bytes, words, tallies) = (*first.bytes(), *first.words(), *first.tallies());
+    let mut second = Monitor::from_memory(bytes, words, tallies, first.order());
     assert_eq!(first.mark(0), second.mark(0));
     assert_eq!(first, second);
     assert!(second.report().marked().eq([0, 9]));

@@ -16,6 +16,8 @@ const LISTS: u64 = 1200;
 const CALLS_OF_A_LIST: usize = 900;
 /// Loads, as starts, are rare, so that worlds grow.
 const ONE_LOAD_OF: usize = 300;
+/// Now and then another list is lent: no call looks at what it holds.
+const ONE_LIST_OF: usize = 30;
 const MEMORIES: u64 = 8000;
 const CALLS_ON_A_MEMORY: usize = 12;
 
@@ -35,7 +37,7 @@ impl List {
         let mut rng = Rng::new(seed);
         let order = worlds::order(&mut rng);
         let mut pair = Pair::new(format!("list of TUPEHIWO_SEED={seed}"));
-        pair.set_tally(worlds::tally(&mut rng));
+        pair.set_tallies(worlds::tallies(&mut rng));
         if rng.once_in(2) {
             pair.set_state(worlds::sound_state(&mut rng, &order));
             pair.set_byte(rng.below(1024), rng.bits() as u8);
@@ -51,6 +53,9 @@ impl List {
     }
 
     fn one_call(&mut self) {
+        if self.rng.once_in(ONE_LIST_OF) {
+            self.pair.set_tallies(worlds::tallies(&mut self.rng));
+        }
         if self.rng.once_in(ONE_LOAD_OF) {
             let order = self.order_of_a_new_state();
             let lengths = worlds::lengths(&mut self.rng);
@@ -196,8 +201,8 @@ fn calls_on_one_memory(seed: u64, pool: &[Number], unreached: &mut Unreached) ->
         *unreached.entry(what).or_default() += u64::from(found);
     }
     pair.set_state(state);
-    pair.set_tally(worlds::tally(&mut rng));
     for _ in 0..CALLS_ON_A_MEMORY {
+        pair.set_tallies(worlds::tallies(&mut rng));
         if rng.once_in(40) {
             let value = rng.pick(&[0, 1, 2, 3, 4, 127, 128, 255]);
             pair.set_byte(rng.below(1024), value);

@@ -159,7 +159,7 @@ fn every_length() {
         let mut pair = Pair::new(format!("lengths, {call:?}"));
         for bytes in bytes {
             for words in words {
-                let lengths = Lengths { bytes, words };
+                let lengths = Lengths { bytes, words, ..Lengths::RIGHT };
                 pair.set_state(state.clone());
                 let verdict = pair.perform_with(lengths, Q, call).verdict;
                 assert_eq!(verdict == 2, lengths != Lengths::RIGHT, "{lengths:?} {call:?}");
@@ -250,6 +250,7 @@ fn every_unknown_code() {
 #[test]
 fn every_small_order() {
     let mut pair = Pair::new("small orders");
+    let mut passing = 0;
     for count in 0..=4u16 {
         // Every relation of this many levels.
         for relation in 0..1u32 << (count * count) {
@@ -261,12 +262,13 @@ fn every_small_order() {
             // Every top for three levels; for four, that would be long.
             let tops = if count == 4 { 3..=4 } else { 0..=count };
             for top in tops {
-                pair.perform(Order { rows, count, top }, request(code::START, &[]));
+                let answer = pair.perform(Order { rows, count, top }, request(code::START, &[]));
+                passing += u32::from(answer.verdict == 0);
             }
         }
     }
     // A top over any partial order of the rest: of 0, 1, 2 levels for each top, and of 3 for one.
-    assert_eq!(pair.model.tally.granted, 1 + 2 + 3 * 3 + 19);
+    assert_eq!(passing, 1 + 2 + 3 * 3 + 19);
 }
 
 #[test]

@@ -75,10 +75,10 @@ impl Drawers {
         self.pair.perform(FLAT, request(code::MOVE, &[0, moved.driver, object, from, to])).verdict
     }
 
-    /// Refused for its place, and nothing is changed but the count of refusals.
+    /// Refused for its place, and nothing is changed but the core's count of refusals.
     fn must_stay(&mut self, object: Number, to: Number) {
         let mut expected = self.pair.model.clone();
-        expected.tally.refused += 1;
+        expected.tallies[0].refused += 1;
         assert_eq!(self.ask(object, to), PLACE, "{object} to {to}");
         assert!(self.pair.model == expected, "{object} to {to} changed something");
     }

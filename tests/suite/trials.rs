@@ -1,7 +1,7 @@
 //! The paper's trials by name, the longest spreads, and other small worlds.
 
 use tupehiwo::Verdict;
-use tupehiwo::ffi::{Order, Tally, code};
+use tupehiwo::ffi::{Order, code};
 use tupehiwo_tests::compare::{Pair, next_marked};
 use tupehiwo_tests::model::{Lengths, Object, State, Thing};
 use tupehiwo_tests::request;
@@ -213,13 +213,13 @@ fn a_step_goes_one_flow_far_and_takes_the_objects_along() {
 }
 
 #[test]
-fn a_mark_repeated_changes_only_the_tally() {
+fn a_mark_repeated_changes_only_the_cores_tally() {
     let mut trial = reading(1, 3);
     trial.grant(code::MARK, &[DRIVER]);
-    let before = trial.pair.model.clone();
+    let mut expected = trial.pair.model.clone();
+    expected.tallies[0].granted += 1;
     trial.grant(code::MARK, &[DRIVER]);
-    assert_eq!(trial.pair.model.state, before.state);
-    assert_eq!(trial.pair.model.tally.granted, before.tally.granted + 1);
+    assert!(trial.pair.model == expected);
 }
 
 /// Each number is the only object in a container, the only marked source of a
@@ -246,42 +246,5 @@ fn every_number_is_looked_at() {
         assert_eq!(pair.perform(Q, request(code::MARK, &[0])).verdict, 0);
         let report = pair.report_with(Lengths::RIGHT, Q);
         assert_eq!((report.ones, next_marked(&report, 3)), (4, number));
-    }
-}
-
-#[test]
-fn counts_stop() {
-    let stop = u32::MAX;
-    for near in [stop - 2, stop - 1, stop] {
-        for count in 0..3 {
-            let mut counts = [7, 8, 9];
-            counts[count] = near;
-            let [granted, slipped, refused] = counts;
-            let mut pair = Pair::started("counts", Q);
-            slip_ready(&mut pair);
-            pair.set_tally(Tally { granted, slipped, refused });
-            for _ in 0..4 {
-                assert_eq!(pair.perform(Q, request(code::MARK, &[2])).verdict, 0);
-                assert_eq!(pair.perform(Q, request(code::READ, &[1, 2, 20])).verdict, 1);
-                assert_eq!(pair.perform(Q, request(code::MARK, &[128])).verdict, 4);
-            }
-            let stopped = pair.model.tally;
-            let counts = [stopped.granted, stopped.slipped, stopped.refused];
-            assert_eq!(counts[count], stop);
-            assert_eq!(counts.iter().filter(|&&count| count == stop).count(), 1);
-        }
-    }
-}
-
-/// A marked driver 2 at 3, whose object 20 at 2 the task 1 at 1 reads by a slip.
-fn slip_ready(pair: &mut Pair) {
-    for call in [
-        request(code::CREATE_ROOT, &[0, 0, 10, 3]),
-        request(code::EXECUTE, &[0, 10, 1, 1, 1]),
-        request(code::EXECUTE, &[0, 10, 2, 3, 3]),
-        request(code::CREATE_ROOT, &[0, 2, 20, 2]),
-        request(code::MARK, &[2]),
-    ] {
-        assert_eq!(pair.perform(Q, call).verdict, 0, "{call:?}");
     }
 }

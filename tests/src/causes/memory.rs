@@ -51,7 +51,8 @@ const OBJECT: [&str; 14] = [
 /// What number 0 may not be.
 const CORE: [&str; 3] = ["free", "an object", "not at the top"];
 
-const LENGTHS: [Reason; 2] = [("length", "of the bytes"), ("length", "of the words")];
+const LENGTHS: [Reason; 3] =
+    [("length", "of the bytes"), ("length", "of the words"), ("length", "of the list")];
 const KIND: Reason = ("record", "kind over 2");
 
 /// Every cause of verdict 2.
@@ -66,7 +67,8 @@ pub fn all() -> Vec<Reason> {
 }
 
 pub fn cause(state: &State, lengths: Lengths, order: &Order, starting: bool) -> Option<Reason> {
-    let wrong = [lengths.bytes != Lengths::RIGHT.bytes, lengths.words != Lengths::RIGHT.words];
+    let Lengths { bytes, words, tallies } = Lengths::RIGHT;
+    let wrong = [lengths.bytes != bytes, lengths.words != words, lengths.tallies != tallies];
     let mut faults: BTreeSet<Reason> = LENGTHS
         .into_iter()
         .zip(wrong)

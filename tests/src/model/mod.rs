@@ -5,13 +5,15 @@ mod layout;
 mod marks;
 mod order;
 mod state;
+mod tallies;
 
 pub use layout::{Drawer, Form, LAYOUT_BYTES, LAYOUT_DEPTH, calls, read_layout, written};
 pub use order::{at_or_below, passes};
 pub use state::{BYTES, Mark, Number, Object, Pairs, RECORD, State, THINGS, Task, Thing, WORDS};
+pub use tallies::{NOTHING_COUNTED, Tallies};
 
 use events::Event;
-use tupehiwo::ffi::{Answer, Order, Report, Request, Tally, code};
+use tupehiwo::ffi::{Answer, Order, Report, Request, code};
 
 /// The paper's verdicts, by their numbers.
 #[derive(Clone, Copy, Debug, PartialEq, Eq)]
@@ -38,15 +40,16 @@ pub enum Verdict {
 /// `Ok` if the call is performed (granted or slipped), `Err` if it is refused.
 pub type Outcome = Result<Verdict, Verdict>;
 
-/// How many bytes and words a call is lent.
+/// How many bytes, words and tallies a call is lent.
 #[derive(Clone, Copy, Debug, PartialEq, Eq)]
 pub struct Lengths {
     pub bytes: usize,
     pub words: usize,
+    pub tallies: usize,
 }
 
 impl Lengths {
-    pub const RIGHT: Lengths = Lengths { bytes: BYTES, words: WORDS };
+    pub const RIGHT: Lengths = Lengths { bytes: BYTES, words: WORDS, tallies: THINGS };
 }
 
 /// A refused call, on the state that it met.
@@ -55,13 +58,22 @@ pub type Ended = Option<(State, Request)>;
 #[derive(Clone, Debug, PartialEq, Eq)]
 pub struct Model {
     pub state: State,
-    pub tally: Tally,
+    pub tallies: Tallies,
 }
 
 impl Model {
+    /// On a list of zeros.
+    pub fn new(state: State) -> Model {
+        Model { state, tallies: NOTHING_COUNTED }
+    }
+
     /// Performs one call, and counts it.
     pub fn perform(&mut self, lengths: Lengths, order: &Order, request: Request) -> Answer {
+        if lengths.tallies != THINGS {
+            return REFUSED_FOR_ITS_LIST;
+        }
         let starting = request.code == code::START;
+        let asker = self.state.asker(request);
         let fit = self.fit(lengths, order, starting);
         let answer = match fit {
             Ok(()) if request.code == code::SPREAD => {
@@ -70,13 +82,16 @@ impl Model {
             Ok(()) => answer(self.dispatch(order, request)),
             Err(refusal) => answer(Err(refusal)),
         };
-        self.count(answer.verdict);
+        self.count(starting, asker, answer.verdict);
         answer
     }
 
     /// Begins anew with the layout of a text, and counts that once. `Ended` is the
     /// call of the layout that was refused, if one was.
     pub fn load(&mut self, lengths: Lengths, order: &Order, text: &[u8]) -> (Answer, Ended) {
+        if lengths.tallies != THINGS {
+            return (REFUSED_FOR_ITS_LIST, None);
+        }
         let fit = self.fit(lengths, order, true);
         let mut ended = None;
         let outcome = fit.and_then(|()| {
@@ -87,7 +102,7 @@ impl Model {
             self.state = State::started(order.top);
         }
         let answer = answer(outcome);
-        self.count(answer.verdict);
+        self.count(true, None, answer.verdict);
         (answer, ended)
     }
 
@@ -103,7 +118,7 @@ impl Model {
         Ok(Verdict::Granted)
     }
 
-    /// The marked numbers; it counts nowhere.
+    /// The marked numbers; it is lent no list and counts nowhere.
     pub fn report(&self, lengths: Lengths, order: &Order) -> Report {
         let refused = |verdict: Verdict| Report { words: [0; 2], ones: 0, verdict: verdict as u8 };
         match self.fit(lengths, order, false) {
@@ -114,8 +129,8 @@ impl Model {
 
     /// Verdicts 2 and 3. A start does not look at the bytes.
     fn fit(&self, lengths: Lengths, order: &Order, starting: bool) -> Result<(), Verdict> {
-        let state = lengths == Lengths::RIGHT && (starting || self.state.is_sound(order));
-        require(state, Verdict::State)?;
+        let lent = (lengths.bytes, lengths.words) == (BYTES, WORDS);
+        require(lent && (starting || self.state.is_sound(order)), Verdict::State)?;
         require(passes(order), Verdict::Order)
     }
 
@@ -142,16 +157,10 @@ impl Model {
             _ => Err(Verdict::Number),
         }
     }
-
-    fn count(&mut self, verdict: u8) {
-        let count = match verdict {
-            0 => &mut self.tally.granted,
-            1 => &mut self.tally.slipped,
-            _ => &mut self.tally.refused,
-        };
-        *count = count.saturating_add(1);
-    }
 }
+
+/// "A list of another length is refused with 2 and stays untouched", as all else does.
+const REFUSED_FOR_ITS_LIST: Answer = Answer { verdict: Verdict::State as u8, rounds: 0 };
 
 /// The answer of a call that is no granted spread: no rounds.
 fn answer(outcome: Outcome) -> Answer {

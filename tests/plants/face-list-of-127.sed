@@ -1,0 +1,1 @@
+s/tallies\[TUPEHIWO_TALLIES\];/tallies[TUPEHIWO_TALLIES - 1];/

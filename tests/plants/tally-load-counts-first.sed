@@ -1,0 +1,1 @@
+/^struct tupehiwo_answer baseline_load(/,/^}/{s/^                clear_tallies(tallies);/                ;/;s/^    raise(&tallies\[0\], answer.verdict);/&\n    if (answer.verdict == TUPEHIWO_GRANTED)\n        clear_tallies(tallies);/}

@@ -1,0 +1,1 @@
+/^struct tupehiwo_answer baseline_load(/,/^}/s/^    raise(&tallies\[0\], answer.verdict);/&\n    for (unsigned n = 1; answer.verdict == TUPEHIWO_GRANTED \&\& n < THINGS; n++)\n        if (*row(\&s, WRITES, n) != 0)\n            raise(\&tallies[n], TUPEHIWO_GRANTED);/

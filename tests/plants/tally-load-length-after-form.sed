@@ -1,0 +1,1 @@
+/^struct tupehiwo_answer baseline_load(/,/^}/s/^    if (ntallies != TUPEHIWO_TALLIES)$/    if (ntallies != TUPEHIWO_TALLIES \&\& check_layout(text, ntext).verdict == TUPEHIWO_FORM)\n        answer.verdict = TUPEHIWO_FORM;\n&/

@@ -1,0 +1,1 @@
+/^struct tupehiwo_answer baseline_load(/,/^}/s/^    if (ntallies != TUPEHIWO_TALLIES)$/    if (ntallies != TUPEHIWO_TALLIES \&\& ntallies > 0)\n        raise(tallies, TUPEHIWO_STATE);\n&/

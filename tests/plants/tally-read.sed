@@ -1,0 +1,1 @@
+/^static unsigned asker(/,/^}/s/q.code >= TUPEHIWO_CODE_READ/q.code > TUPEHIWO_CODE_READ/

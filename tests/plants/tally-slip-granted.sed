@@ -1,0 +1,1 @@
+/^static void raise(/,/^}/s/&tally->slipped/\&tally->granted/

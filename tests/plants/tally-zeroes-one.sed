@@ -1,0 +1,1 @@
+/^static void clear_tallies(/,/^}/s/TUPEHIWO_TALLIES \* sizeof/sizeof/
