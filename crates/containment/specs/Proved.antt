@@ -1,4 +1,4 @@
--- The claims of demand 3, proved: those about lists here, that a spread is exact and what a load gives and leaves in files of their own.
+-- The claims of demand 3, proved: those about lists here, that a spread is exact, what a load gives and leaves and what becomes of tallies in files of their own.
 -- Assumes nothing.
 use mathlib.Core.Path.{_≡_, refl, sym, ap, _∙_}
 use mathlib.Core.Bool.{true, false, and-eq-true-iff, true≢false, false≢true}
@@ -31,6 +31,7 @@ use Rattle.model.specs.LoadLaws.{past-rows, past-load, load-past}
 use Rattle.model.specs.Trials.{Q}
 use Rattle.containment.specs.Lists.{Item, asks, reports, loads, lent, StandingOf, Role, starting, marking, other, role, entered, next, run, Admitted, Admissible, leaves, begun, Begins, by-start, by-load}
 use Rattle.containment.specs.Claims.{Reached, Containment, Determined, LeavesSound, RepeatedMark, NeverUnsound, Rooted, FreeBare, DriversAbove, StartGranted, ListsBegin, OwnOrderReached, MarkGranted, SpreadGranted, GrantedUnreached}
+use Rattle.containment.specs.TallyClaims.{WholeContainment}
 use Rattle.containment.specs.Tables.{Table, flows, reads, writes, has}
 use Rattle.containment.specs.Invariant.{standing, Joined, Limits, joins, Invariant, contained}
 use Rattle.containment.specs.ItemsKeep.{begun-keeps, run-keeps}
@@ -39,7 +40,6 @@ pub use Rattle.containment.specs.SpreadProof.{spread-exact}
 pub use Rattle.containment.specs.PlaceProof.{inside-exact, move-place}
 pub use Rattle.containment.specs.LoadProof.{layout-gives, load-gives, loads-sound, refused-load, untouched-by-load, load-is-list, load-tells, load-rows}
 pub use Rattle.containment.specs.TallyProof.{another-length, never-tested, refusal-keeps, refused-load-keeps, others-kept, all-asked, on-asker, on-record-zero, begun-anew, tallies-apart, whole-reached}
-use Rattle.containment.specs.TallyClaims.{WholeContainment}
 
 -- what a list leaves
 reached : {size : Size} (b : Item) (m : MemoryOf size) (is : List Item) → Reached b m is → Invariant (run is (begun b m))

@@ -1,15 +1,15 @@
 -- What whole calls and loads leave of their tallies, and that demand 3's lists do not hang on them: the claims about tallies, proved.
 -- Assumes nothing.
 use mathlib.Core.Path.{_≡_, refl, sym, ap, subst, _∙_}
-use mathlib.Core.Bool.{Bool, true, false, _&&_, true≢false, false≢true}
-use mathlib.Core.Logic.{_⊎_, inl, inr, ⊎-elim}
+use mathlib.Core.Bool.{true, false, _&&_, true≢false, false≢true}
+use mathlib.Core.Logic.{_⊎_, inl, inr}
 use mathlib.Core.List.{List, [], _∷_}
 use Prim.Native.Nat.{ℕ, _<_}
 use native.Mathlib.Omega.{arith}
 use lib.Dec.{eqb}
-use lib.ListN.{length, getD, set, replicate, length-set, length-replicate, getD-replicate}
+use lib.ListN.{length, set, replicate, length-set, length-replicate, getD-replicate}
 use lib.Seq.{getD-set-same, getD-set-other}
-use borrow.Author.Tests.{eqb-true, eqb-false, eq-eqb, ne-eqb}
+use borrow.Author.Tests.{eqb-true, eq-eqb, ne-eqb}
 use Rattle.bits.specs.AllLaws.{either, not-so, and-l, and-r}
 use Rattle.rows.specs.Size.{Size, numbersOf}
 use Rattle.rows.specs.RowLaws.{some-number}
@@ -26,21 +26,16 @@ use Rattle.model.specs.TableLaws.{refused-keeps}
 use Rattle.model.specs.Load.{load, pastOrder}
 use Rattle.model.specs.LoadLaws.{laid-refused, load-past, load-kept}
 use Rattle.model.specs.Tallies.{oneMore, raised, nothingCounted, listFits, zeroed, raisedAt, isStart, ifTask, asker, countedOn, TalliedOf, counted, performed, loaded}
-use Rattle.model.specs.TallyLaws.{refused-not, raised-refused, start-is, counted-within, call-fits, call-other, call-out, load-fits, load-other, load-out}
-use Rattle.containment.specs.Lists.{Item, asks, reports, loads, StandingOf, role, entered, next, run, Admitted, Admissible, begun, Begins}
+use Rattle.model.specs.TallyLaws.{raised-refused, start-is, counted-within, call-fits, call-other, call-out, load-fits, load-other, load-out}
+use Rattle.containment.specs.Lists.{Item, asks, reports, loads, StandingOf, next, run, Admitted, Admissible, begun}
 use Rattle.containment.specs.TallyLists.{WholeItem, with-tallies, fitting, nextWhole, runWhole, AdmittedWhole, AdmissibleWhole}
-use Rattle.containment.specs.Claims.{Reached}
-use Rattle.containment.specs.TallyClaims.{Fits, recordOf, AnotherLength, NeverTested, OnlyRefused, RefusedOn, RefusalKeeps, RefusedLoadKeeps, RaisedOnly, OthersKept, AskedBy, of-read, of-write, of-execute, of-create, of-create-root, of-move, of-delete, of-call, of-invoke, of-pass, of-post, of-find, AskedByNone, of-start, of-mark, of-step, of-spread, AllAsked, OnAsker, OnRecordZero, CountsItself, BegunAnew, TalliesApart, WholeReached}
+use Rattle.containment.specs.TallyClaims.{Fits, recordOf, AnotherLength, NeverTested, OnlyRefused, RefusalKeeps, RefusedLoadKeeps, RaisedOnly, OthersKept, AskedBy, of-read, of-write, of-execute, of-create, of-create-root, of-move, of-delete, of-call, of-invoke, of-pass, of-post, of-find, AskedByNone, of-start, of-mark, of-step, of-spread, AllAsked, OnAsker, OnRecordZero, CountsItself, BegunAnew, TalliesApart, WholeReached}
 
 -- ---- the length of the list
 
 fits-i : (size : Size) (ts : List Tally) → Fits size ts → listFits size ts ≡ true
 unfolding listFits
 fits-i size ts f = eq-eqb (length ts) (numbersOf size) f
-
-fits-e : (size : Size) (ts : List Tally) → listFits size ts ≡ true → Fits size ts
-unfolding listFits
-fits-e size ts h = eqb-true (length ts) (numbersOf size) h
 
 other-i : (size : Size) (ts : List Tally) → (Fits size ts → ⊥) → listFits size ts ≡ false
 unfolding listFits

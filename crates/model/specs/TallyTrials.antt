@@ -1,18 +1,61 @@
--- Trials of the tallies, at the size in use: what a whole call or load must leave of a state and of its list. TallyTrialsProved.antt proves them.
+-- Trials of the tallies, at the size in use: on whose record a call counts, and what whole calls and loads leave of a list. TallyTrialsProved.antt proves them.
 -- Assumes nothing.
 use mathlib.Core.Path.{_≡_}
-use mathlib.Core.List.{List, [], _∷_}
+use mathlib.Core.List.{List, [], _∷_, map}
 use Prim.Native.Nat.{ℕ}
 use lib.ListN.{replicate, set}
 use Rattle.rows.specs.Size.{numbers}
 use Rattle.levels.specs.declared.Order.{Order}
+use Rattle.model.specs.Verdicts as verdicts
 use Rattle.model.specs.Verdicts.{row-state, row-order, row-number, row-rule, row-form}
 use Rattle.model.specs.State.{Memory}
-use Rattle.model.specs.Monitor.{refusal}
-use Rattle.model.specs.Tallies.{mostCounted, nothingCounted, tallied, performed, loaded}
-use Rattle.model.specs.Trials.{orderOf, Q, fresh, threeThings}
-use Rattle.model.specs.declared.Call.the-variants.{Start, Read, Write}
+use Rattle.model.specs.Tallies.{mostCounted, nothingCounted, countedOn, Tallied, performed, loaded}
+use Rattle.model.specs.Trials.{orderOf, Q, threeThings}
+use Rattle.model.specs.declared.Call.{Call}
+use Rattle.model.specs.declared.Call.the-variants.{Start, Read, Write, Execute, Create, CreateRoot, Move, Delete, CallTask, Invoke, Pass, Post, Find, Mark, Step, Spread}
 use Rattle.model.specs.declared.Tally.{Tally}
+
+-- task 1 at level 1, object 2 at level 2, and its driver, task 3, at the top
+unfoldable pub unmarked : Memory
+unmarked = threeThings 1 3 0
+
+-- ---- who asks
+
+-- a call of each kind that a task asks for: a comes first, and task 3 is in all other places
+unfoldable pub askedBy : ℕ → List Call
+askedBy a =
+    Read a 3 3
+    ∷ Write a 3 3
+    ∷ Execute a 3 3 3 3
+    ∷ Create a 3 3 3 3
+    ∷ CreateRoot a 3 3 3
+    ∷ Move a 3 3 3 3
+    ∷ Delete a 3 3 3
+    ∷ CallTask a 3
+    ∷ Invoke a 3
+    ∷ Pass a 3 3
+    ∷ Post a 3 3
+    ∷ Find a 3 3
+    ∷ []
+
+-- the records that they count on, each with the verdict v
+unfoldable pub countingOn : ℕ → List Call → List ℕ
+countingOn v cs = map (λ (c : Call). countedOn unmarked c v) cs
+
+abbrev pub WhoAsks : Type 0
+WhoAsks =
+    -- task 1, refused for another number: its record
+    (countingOn row-number (askedBy 1) ≡ replicate 12 1)
+    -- an object, and a number that is free
+    × (countingOn row-number (askedBy 2) ≡ replicate 12 0)
+    × (countingOn row-number (askedBy 4) ≡ replicate 12 0)
+    -- with 2 and with 3, whoever asks
+    × (countingOn row-state (askedBy 1) ≡ replicate 12 0)
+    × (countingOn row-order (askedBy 1) ≡ replicate 12 0)
+    -- nobody
+    × (countingOn verdicts.granted (Start ∷ Mark 1 ∷ Step 1 ∷ Spread ∷ []) ≡ replicate 4 0)
+
+-- ---- whole calls and loads
 
 abbrev counts : ℕ → ℕ → ℕ → Tally
 counts g s r = record { granted = g; slipped = s; refused = r }
@@ -25,11 +68,11 @@ once n = replicate n (counts 1 1 1)
 unfoldable pub onceBut : ℕ → Tally → List Tally
 onceBut i t = set (once numbers) i t
 
--- task 1 at level 1, object 2 at level 2, and its driver, task 3, at the top
-unfoldable pub unmarked : Memory
-unmarked = threeThings 1 3 0
+-- nothing, but for one granted call on record 0
+unfoldable pub anew : List Tally
+anew = set (replicate numbers nothingCounted) 0 (counts 1 0 0)
 
--- not transitive, but its count and its top are those of Q
+-- not transitive; its count and its top are those of Q
 unfoldable pub unfit : Order
 unfit = orderOf 4 3 (11 ∷ 14 ∷ 12 ∷ 8 ∷ [])
 
@@ -37,30 +80,29 @@ unfit = orderOf 4 3 (11 ∷ 14 ∷ 12 ∷ 8 ∷ [])
 unfoldable pub alone : Order
 alone = orderOf 1 0 (1 ∷ [])
 
+abbrev Gives : Tallied → ℕ → List Tally → Type 0
+Gives done v ts = (done .outcome .verdict ≡ v) × (done .tallies ≡ ts)
+
 abbrev pub TallyTrials : Type 0
 TallyTrials =
-    -- task 1 is refused a write: its record counts it, and neither the driver's nor the object's
-    (performed Q unmarked (once numbers) (Write 1 3 2) ≡ tallied (refusal row-rule unmarked) (onceBut 1 (counts 1 1 2)))
-    -- under a marked driver it slips; a read by the read level is granted
-    × (performed Q (threeThings 1 3 1) (once numbers) (Write 1 3 2) .tallies ≡ onceBut 1 (counts 1 2 1))
-    × (performed Q (threeThings 0 3 0) (once numbers) (Read 1 3 2) .tallies ≡ onceBut 1 (counts 2 1 1))
-    -- an object, or a number that is free, asks: record 0
-    × (performed Q unmarked (once numbers) (Write 2 3 2) ≡ tallied (refusal row-number unmarked) (onceBut 0 (counts 1 1 2)))
-    × (performed Q unmarked (once numbers) (Write 4 3 2) ≡ tallied (refusal row-number unmarked) (onceBut 0 (counts 1 1 2)))
-    -- a number too many for another role is no matter: the asker's
-    × (performed Q unmarked (once numbers) (Write 1 128 2) ≡ tallied (refusal row-number unmarked) (onceBut 1 (counts 1 1 2)))
-    -- 2 and 3: record 0, whoever asks
-    × (performed alone unmarked (once numbers) (Write 1 3 2) ≡ tallied (refusal row-state unmarked) (onceBut 0 (counts 1 1 2)))
-    × (performed unfit unmarked (once numbers) (Write 1 3 2) ≡ tallied (refusal row-order unmarked) (onceBut 0 (counts 1 1 2)))
     -- a start zeroes the list, then counts itself; one that is refused zeroes nothing
-    × (performed Q unmarked (once numbers) Start .tallies ≡ set (replicate numbers nothingCounted) 0 (counts 1 0 0))
-    × (performed unfit unmarked (once numbers) Start ≡ tallied (refusal row-order unmarked) (onceBut 0 (counts 1 1 2)))
-    -- so does a load; one that is refused leaves the state of a start, and zeroes nothing
-    × (loaded Q unmarked (once numbers) [] .tallies ≡ set (replicate numbers nothingCounted) 0 (counts 1 0 0))
-    × (loaded Q unmarked (once numbers) (0x78 ∷ []) ≡ tallied (refusal row-form fresh) (onceBut 0 (counts 1 1 2)))
-    -- a record too few, or too many, for a start and a load too
-    × (performed Q unmarked (once 127) (Write 1 3 2) ≡ tallied (refusal row-state unmarked) (once 127))
-    × (performed Q unmarked (once 127) Start ≡ tallied (refusal row-state unmarked) (once 127))
-    × (loaded Q unmarked (once 129) [] ≡ tallied (refusal row-state unmarked) (once 129))
+    Gives (performed Q unmarked (once numbers) Start) verdicts.granted anew
+    × Gives (performed unfit unmarked (once numbers) Start) row-order (onceBut 0 (counts 1 1 2))
+    -- so does a load
+    × Gives (loaded Q unmarked (once numbers) []) verdicts.granted anew
+    × Gives (loaded Q unmarked (once numbers) (0x78 ∷ [])) row-form (onceBut 0 (counts 1 1 2))
+    -- a record too few or too many
+    × Gives (performed Q unmarked (once 127) (Write 1 3 2)) row-state (once 127)
+    × Gives (performed Q unmarked (once 127) Start) row-state (once 127)
+    × Gives (loaded Q unmarked (once 129) []) row-state (once 129)
+    -- task 1 asks under another start's order: record 0
+    × Gives (performed alone unmarked (once numbers) (Write 1 3 2)) row-state (onceBut 0 (counts 1 1 2))
+    -- it is refused a write: its record counts that, and neither the driver's nor the object's
+    × Gives (performed Q unmarked (once numbers) (Write 1 3 2)) row-rule (onceBut 1 (counts 1 1 2))
     -- a count stops
-    × (performed Q unmarked (onceBut 1 (counts 1 1 mostCounted)) (Write 1 3 2) .tallies ≡ onceBut 1 (counts 1 1 mostCounted))
+    × Gives (performed Q unmarked (onceBut 1 (counts 1 1 mostCounted)) (Write 1 3 2)) row-rule (onceBut 1 (counts 1 1 mostCounted))
+    -- the object asks
+    × Gives (performed Q unmarked (once numbers) (Write 2 3 2)) row-number (onceBut 0 (counts 1 1 2))
+    -- under a marked driver the write slips; a read by the read level is granted
+    × Gives (performed Q (threeThings 1 3 1) (once numbers) (Write 1 3 2)) verdicts.slipped (onceBut 1 (counts 1 2 1))
+    × Gives (performed Q (threeThings 0 3 0) (once numbers) (Read 1 3 2)) verdicts.granted (onceBut 1 (counts 2 1 1))
