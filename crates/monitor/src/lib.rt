@@ -286,13 +286,7 @@ fn load(bytes: &mut [u8], words: &mut [u64], order: Order, text: &[u8]) -> u8
 }
 
 // A load that is lent a list of so many records.
-fn load_lent(
-    bytes: &mut [u8],
-    words: &mut [u64],
-    lent: usize,
-    order: Order,
-    text: &[u8],
-) -> Entry
+fn load_lent(bytes: &mut [u8], words: &mut [u64], lent: usize, order: Order, text: &[u8]) -> Entry
     ensures { λ r. ⌜ (left (r .answer .verdict) (r .answer .rounds) (now (bytes .exit)) (now (words .exit)) ≡ refusedUnless (eqb lent numbers) row-state (memory (now (bytes .entry)) (now (words .entry))) (loads.load order (memory (now (bytes .entry)) (now (words .entry))) (now (text .entry))))
         × Enters r 0 (eqb (r .answer .verdict) granted) × Fitting r ⌝ }
 {

@@ -19,10 +19,9 @@ returns c =
     let d : tie.After-call-lent = search in
     let e : tie.After-enter-counts = search in
     let m = memory (s .args .bytes .now) (s .args .words .now) in
-    let ts = recordsIn (s .args .counts .now) in
-    (
+    let ts = recordsIn (s .args .counts .now) in (
       ap (tallied _) (e .enter-counts .ensures .0)
-      ∙ performed-is (s .args .order) m ts (s .args .call) _ (d .call-lent .result) (d .call-lent .ensures .0 ∙ counted-length m _ (n .records-in .ensures)) refl (d .call-lent .ensures .1),
+          ∙ performed-is (s .args .order) m ts (s .args .call) _ (d .call-lent .result) (d .call-lent .ensures .0 ∙ counted-length m _ (n .records-in .ensures)) refl (d .call-lent .ensures .1),
       e .enter-counts .ensures .1,
     )
 

@@ -36,10 +36,12 @@ returns-2 c =
     let z = r .before .before .before .before .before in
     let s = z .before .before .before .before .before .before .before in
     let e = s .args .entry in
-    let fits : length (recordsIn (s .args .counts .now)) ≡ numbers = omega arith in
-    (r .raise-counts .ensures .0
-    ∙ ap (λ (ts : List Tally). raisedAt (e .number) (e .answer .verdict) ts) (z .zero-counts .ensures .0)
-    ∙ fit-entered e (recordsIn (s .args .counts .now)) fits, r .raise-counts .ensures .1 ∙ z .zero-counts .ensures .1)
+    let fits : length (recordsIn (s .args .counts .now)) ≡ numbers = omega arith in (
+      r .raise-counts .ensures .0
+          ∙ ap (λ (ts : List Tally). raisedAt (e .number) (e .answer .verdict) ts) (z .zero-counts .ensures .0)
+          ∙ fit-entered e (recordsIn (s .args .counts .now)) fits,
+      r .raise-counts .ensures .1 ∙ z .zero-counts .ensures .1,
+    )
 
 pub enter-counts-spec : {M : Type 1} → statement M
 enter-counts-spec =
