@@ -36,7 +36,7 @@ AnotherLength = (size : Size) (o : Order) (m : MemoryOf size) (ts : List Tally) 
     → ((c : Call) → performed o m ts c ≡ record { outcome = refusal row-state m; tallies = ts })
     × ((t : List ℕ) → loaded o m ts t ≡ record { outcome = refusal row-state m; tallies = ts })
 
--- of a list of the right length nothing is tested: what else a call or a load answers and leaves does not hang on it
+-- of a list of the right length nothing is tested: what else a call or a load answers and leaves does not depend on it
 abbrev pub NeverTested : Type 0
 NeverTested = (size : Size) (o : Order) (m : MemoryOf size) (ts : List Tally) → Fits size ts
     → ((c : Call) → performed o m ts c .outcome ≡ perform o m c) × ((t : List ℕ) → loaded o m ts t .outcome ≡ load o m t)
@@ -59,7 +59,7 @@ RefusalKeeps = (size : Size) (o : Order) (m : MemoryOf size) (ts : List Tally) (
     → let done = performed o m ts c in isDone (done .outcome .verdict) ≡ false
     → (done .outcome .memory ≡ m) × RefusedOn (countedOn m c (done .outcome .verdict)) ts done
 
--- nor does a refused load change more of the tallies, on record 0; past row 3 it leaves the state of a start, "the one exception"
+-- so does a refused load, on record 0; but past row 3 it leaves the state of a start, "the one exception for refused calls"
 abbrev pub RefusedLoadKeeps : Type 0
 RefusedLoadKeeps = (size : Size) (o : Order) (m : MemoryOf size) (ts : List Tally) (t : List ℕ)
     → let done = loaded o m ts t in isDone (done .outcome .verdict) ≡ false
@@ -140,8 +140,8 @@ BegunAnew = (size : Size) (o : Order) (m : MemoryOf size) (ts : List Tally)
 abbrev pub TalliesApart : Type 0
 TalliesApart = (size : Size) (is : List WholeItem) (s : StandingOf size) → runWhole is s ≡ run (fitting size is) s
 
--- so all claims about lists hold of such lists: after a granted start or a load past row 3, each whole call granted or slipped having its order,
--- one of demand 3's lists leaves the same
+-- so all claims about lists hold of such lists: what fits makes one of demand 3's lists, if a granted start or a load past row 3 begins it and each
+-- whole call granted or slipped, but for a start, has the last granted start's order
 abbrev pub WholeReached : Type 0
 WholeReached = (size : Size) (b : Item) (m : MemoryOf size) (is : List WholeItem) → Begins m b → AdmissibleWhole is (begun b m) → Reached b m (fitting size is)
 

@@ -1,4 +1,4 @@
--- What whole calls and loads leave of their tallies, and that demand 3's lists do not hang on them: the claims about tallies, proved.
+-- What whole calls and loads leave of their tallies, and that what demand 3's lists leave does not depend on them: the claims about tallies, proved.
 -- Assumes nothing.
 use mathlib.Core.Path.{_≡_, refl, sym, ap, subst, _∙_}
 use mathlib.Core.Bool.{true, false, _&&_, true≢false, false≢true}
