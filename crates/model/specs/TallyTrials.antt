@@ -9,7 +9,7 @@ use Rattle.levels.specs.declared.Order.{Order}
 use Rattle.model.specs.Verdicts as verdicts
 use Rattle.model.specs.Verdicts.{row-state, row-order, row-number, row-rule, row-form}
 use Rattle.model.specs.State.{Memory}
-use Rattle.model.specs.Tallies.{mostCounted, nothingCounted, countedOn, Tallied, performed, loaded}
+use Rattle.model.specs.Tallies.{nothingCounted, countedOn, Tallied, performed, loaded}
 use Rattle.model.specs.Trials.{orderOf, Q, threeThings}
 use Rattle.model.specs.declared.Call.{Call}
 use Rattle.model.specs.declared.Call.the-variants.{Start, Read, Write, Execute, Create, CreateRoot, Move, Delete, CallTask, Invoke, Pass, Post, Find, Mark, Step, Spread}
@@ -76,10 +76,6 @@ anew = set (replicate numbers nothingCounted) 0 (counts 1 0 0)
 unfoldable pub unfit : Order
 unfit = orderOf 4 3 (11 ∷ 14 ∷ 12 ∷ 8 ∷ [])
 
--- of another top
-unfoldable pub alone : Order
-alone = orderOf 1 0 (1 ∷ [])
-
 abbrev Gives : Tallied → ℕ → List Tally → Type 0
 Gives done v ts = (done .outcome .verdict ≡ v) × (done .tallies ≡ ts)
 
@@ -95,14 +91,5 @@ TallyTrials =
     × Gives (performed Q unmarked (once 127) (Write 1 3 2)) row-state (once 127)
     × Gives (performed Q unmarked (once 127) Start) row-state (once 127)
     × Gives (loaded Q unmarked (once 129) []) row-state (once 129)
-    -- task 1 asks under another start's order: record 0
-    × Gives (performed alone unmarked (once numbers) (Write 1 3 2)) row-state (onceBut 0 (counts 1 1 2))
-    -- it is refused a write: its record counts that, and neither the driver's nor the object's
+    -- task 1 is refused a write: its record counts that, and neither the driver's nor the object's
     × Gives (performed Q unmarked (once numbers) (Write 1 3 2)) row-rule (onceBut 1 (counts 1 1 2))
-    -- a count stops
-    × Gives (performed Q unmarked (onceBut 1 (counts 1 1 mostCounted)) (Write 1 3 2)) row-rule (onceBut 1 (counts 1 1 mostCounted))
-    -- the object asks
-    × Gives (performed Q unmarked (once numbers) (Write 2 3 2)) row-number (onceBut 0 (counts 1 1 2))
-    -- under a marked driver the write slips; a read by the read level is granted
-    × Gives (performed Q (threeThings 1 3 1) (once numbers) (Write 1 3 2)) verdicts.slipped (onceBut 1 (counts 1 2 1))
-    × Gives (performed Q (threeThings 0 3 0) (once numbers) (Read 1 3 2)) verdicts.granted (onceBut 1 (counts 2 1 1))
