@@ -1,26 +1,26 @@
 -- What the definitions of the tallies come to: the record that a call counts on is one of the list's, and what a whole call or load leaves.
 -- Assumes nothing.
 use mathlib.Core.Path.{_≡_, refl, ap}
-use mathlib.Core.Logic.{inl, inr}
-use mathlib.Core.Bool.{Bool, true, false, _&&_, true≢false, false≢true}
+use mathlib.Core.Logic.{inl, inr, ⊎-elim}
+use mathlib.Core.Bool.{Bool, true, false, cond, _&&_, true≢false, false≢true}
 use mathlib.Core.List.{List}
 use Prim.Native.Nat.{ℕ, _<_}
 use lib.Dec.{eqb}
-use lib.ListN.{length}
-use borrow.Author.Tests.{eqb-true, ne-eqb}
+use lib.ListN.{length, length-set, length-replicate}
+use borrow.Author.Tests.{eqb-true, eq-eqb, ne-eqb}
 use Rattle.bits.specs.AllLaws.{either, and-l}
 use Rattle.rows.specs.Size.{Size, numbersOf, lentWords}
 use Rattle.rows.specs.RowLaws.{some-number}
 use Rattle.levels.specs.declared.Order.{Order}
 use Rattle.records.specs.Records.{lentBytes, soundOf}
-use Rattle.model.specs.Verdicts.{granted, slipped, isDone, row-state}
+use Rattle.model.specs.Verdicts.{granted, slipped, isDone, row-state, row-order}
 use Rattle.model.specs.State.{MemoryOf, lengthsFit, task}
 use Rattle.model.specs.StateLaws.{task-used, used-below}
 use Rattle.model.specs.Events.{OutcomeOf}
 use Rattle.model.specs.Monitor.{refusal, refusedUnless, fitted, start, perform}
 use Rattle.model.specs.Load.{load, pastOrder}
 use Rattle.model.specs.TableLaws.{by-call}
-use Rattle.model.specs.Tallies.{oneMore, raised, listFits, isStart, ifTask, asker, countedOn, TalliedOf, withList, counted, performed, loaded}
+use Rattle.model.specs.Tallies.{oneMore, raised, nothingCounted, listFits, zeroed, raisedAt, isStart, ifTask, asker, countedOn, TalliedOf, withList, counted, performed, loaded}
 use Rattle.model.specs.declared.Call.{Call}
 use Rattle.model.specs.declared.Call.the-variants.{Start, Read, Write, Execute, Create, CreateRoot, Move, Delete, CallTask, Invoke, Pass, Post, Find, Mark, Step, Spread}
 use Rattle.model.specs.declared.Tally.{Tally}
@@ -54,6 +54,9 @@ start-is (Find x z y) h = absurd (false≢true h)
 start-is (Mark e) h = absurd (false≢true h)
 start-is (Step x) h = absurd (false≢true h)
 start-is Spread h = absurd (false≢true h)
+
+pub not-start : (c : Call) → (c ≡ Start → ⊥) → isStart c ≡ false
+not-start c h = ⊎-elim (λ t. absurd (h (start-is c t))) (λ f. f) (either (isStart c))
 
 past-state : {size : Size} (ok : Bool) (m : MemoryOf size) (out : OutcomeOf size) → pastOrder (refusedUnless ok row-state m out .verdict) ≡ true → ok ≡ true
 unfolding refusedUnless refusal pastOrder
@@ -105,6 +108,20 @@ counted-within {size} o m c =
       | inr p ↦ rw p (some-number size)
     ]
 
+-- ---- lists of the right length
+
+pub zeroed-fits : (size : Size) → listFits size (zeroed size) ≡ true
+unfolding listFits zeroed
+zeroed-fits size = eq-eqb _ _ (length-replicate (numbersOf size) nothingCounted)
+
+raised-fits : (size : Size) (i v : ℕ) (ts : List Tally) → listFits size ts ≡ true → listFits size (raisedAt i v ts) ≡ true
+unfolding listFits raisedAt
+raised-fits size i v ts h = rw length-set h
+
+anew-fits : (size : Size) (anew : Bool) (ts : List Tally) → listFits size ts ≡ true → listFits size (cond anew (zeroed size) ts) ≡ true
+anew-fits size true ts h = zeroed-fits size
+anew-fits size false ts h = h
+
 -- ---- whole calls and loads
 
 module _ {size : Size} (o : Order) (m : MemoryOf size) (ts : List Tally) where
@@ -133,3 +150,14 @@ module _ {size : Size} (o : Order) (m : MemoryOf size) (ts : List Tally) where
   pub load-out : listFits size ts ≡ true → (t : List ℕ) → loaded o m ts t .outcome ≡ load o m t
   unfolding counted
   load-out h t = ap (λ (done : TalliedOf size). done .outcome) (load-fits h t)
+
+  -- and it stays one
+  pub call-left-fits : listFits size ts ≡ true → (c : Call) → listFits size (performed o m ts c .tallies) ≡ true
+  unfolding counted
+  call-left-fits h c =
+      rw (call-fits h c) (raised-fits size (countedOn m c (perform o m c .verdict)) (perform o m c .verdict) _ (anew-fits size (isStart c && eqb (perform o m c .verdict) granted) ts h))
+
+  -- a start that row 3 refuses
+  pub start-counted : listFits size ts ≡ true → perform o m Start ≡ refusal row-order m → performed o m ts Start ≡ record { outcome = refusal row-order m; tallies = raisedAt 0 row-order ts }
+  unfolding performed withList counted isStart countedOn pastOrder
+  start-counted h e = rw (h, e) (unfold refusal in refl)

@@ -1,6 +1,6 @@
 -- The entry of a call or of a load, by the way it was answered.
 -- Assumes nothing.
-use mathlib.Core.Path.{_≡_, refl, sym, ap, subst, _∙_}
+use mathlib.Core.Path.{_≡_, refl, sym, ap, _∙_}
 use mathlib.Core.Bool.{Bool, true, false, cond, not, _&&_}
 use mathlib.Core.List.{List}
 use Prim.Native.Nat.{ℕ, _<_}
@@ -18,14 +18,14 @@ use Rattle.model.specs.Verdicts.{granted, row-state, row-order}
 use Rattle.model.specs.State.{Memory, lengthsFit}
 use Rattle.model.specs.Ready.{Ready}
 use Rattle.model.specs.Events.{Outcome, left}
-use Rattle.model.specs.Monitor.{refusal, refusedUnless, start, perform}
+use Rattle.model.specs.Monitor.{refusedUnless, start, perform}
 use Rattle.model.specs.Load.{pastOrder}
 use Rattle.model.specs.LoadLaws.{past-rows}
 use Rattle.model.specs.ReadyLaws.{ready-sound}
 use Rattle.model.specs.Tallies.{isStart, asker, countedOn}
+use Rattle.model.specs.TallyLaws.{not-start}
 use Rattle.tallies.specs.declared.Entry.{Entry}
 use Rattle.tallies.specs.Entries.{Fitting, Enters}
-use Rattle.tallies.specs.EntryLaws.{not-start}
 use Rattle.monitor.proofs.Rows.{passed, stopped, no-rounds, unfit, disordered}
 
 -- what `on_first` says of its entry

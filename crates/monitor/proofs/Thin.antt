@@ -2,7 +2,7 @@
 -- All three slices are passed on at their own lifetimes, shares and ghost names, so they are given up for good (`gave-slice`), no lifetime is made and nothing has to come back. The machine values of the order and of the last parameter are never looked into, and what they own goes to the callee as it came.
 -- Assumes nothing.
 use mathlib.Core.Path.{_≡_, refl, sym, ap, subst}
-use Prim.Native.Nat.{ℕ, _<_, _^_}
+use Prim.Native.Nat.{ℕ}
 use mathlib.Core.List.{[], _∷_, List}
 use lib.Dec.{T as Holds}
 use lib.ListN.{length}

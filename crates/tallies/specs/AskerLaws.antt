@@ -2,22 +2,20 @@
 -- Assumes nothing.
 use mathlib.Core.Path.{_≡_, sym, ap, _∙_}
 use mathlib.Core.Bool.{true, false}
-use mathlib.Core.List.{List}
-use Prim.Native.Nat.{ℕ, _<_, _≤_}
-use native.Mathlib.Nat.{lt-of-not-le}
+use mathlib.Core.List.{List, []}
+use Prim.Native.Nat.{ℕ, _<_}
 use native.Mathlib.Omega.{arith}
-use borrow.Author.Tests.{eqb-true}
-use Rattle.rows.specs.Size.{present, numbers}
-use Rattle.records.specs.Records.{BytesLent, kind, isTask}
-use Rattle.records.specs.RecordLaws.{field-past}
+use Rattle.rows.specs.Size.{numbers}
+use Rattle.records.specs.Records.{BytesLent, isTask}
+use Rattle.model.specs.StateLaws.{task-used, used-below}
 use Rattle.model.specs.declared.Call.{Call}
 use Rattle.model.specs.State.{memory, task}
 use Rattle.model.specs.Tallies.{ifTask, asker}
 
 module _ (bs : List ℕ) (x : ℕ) where
   task-in : BytesLent bs → isTask bs x ≡ true → x < numbers
-  unfolding isTask
-  task-in long t = lt-of-not-le (λ (past : numbers ≤ x). omega (arith, field-past present bs x 0 long past, eqb-true (kind bs x) 1 t))
+  unfolding task
+  task-in long t = used-below (memory bs []) x long (task-used (memory bs []) x t)
 
   pub a-task : BytesLent bs → isTask bs x ≡ true → ((ws : List ℕ) → x ≡ ifTask (memory bs ws) x) × (x < numbers)
   unfolding ifTask task

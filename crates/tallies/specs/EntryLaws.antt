@@ -9,13 +9,12 @@ use native.Mathlib.Omega.{arith}
 use lib.Dec.{eqb}
 use lib.ListN.{length, replicate, drop, drop-of-length-le}
 use mir.Val.{boolByte}
-use borrow.Author.Tests.{eqb-true, eq-eqb, ne-eqb}
+use borrow.Author.Tests.{eq-eqb, ne-eqb}
 use Rattle.bits.specs.AllLaws.{either}
 use Rattle.rows.specs.Size.{present, numbers}
 use Rattle.levels.specs.declared.Order.{Order}
 use Rattle.model.specs.declared.Tally.{Tally}
 use Rattle.model.specs.declared.Call.{Call}
-use Rattle.model.specs.declared.Call.the-variants.{Start, Read, Write, Execute, Create, CreateRoot, Move, Delete, CallTask, Invoke, Pass, Post, Find, Mark, Step, Spread}
 use Rattle.model.specs.Verdicts.{granted, row-state}
 use Rattle.model.specs.State.{Memory}
 use Rattle.model.specs.Events.{Outcome}
@@ -78,24 +77,3 @@ module _ (o : Order) (m : Memory) (ts : List Tally) where
   pub loaded-is : (t : List ℕ) (given : Outcome) (n : Entry) → given ≡ refusedUnless (eqb (length ts) numbers) row-state m (load o m t) → n .answer .verdict ≡ given .verdict → Enters n 0 (eqb (n .answer .verdict) granted) → tallied given (enteredAs n ts) ≡ loaded o m ts t
   unfolding loaded
   loaded-is t given n = entered-is m ts (load o m t) given n (λ v. 0) (λ v. eqb v granted)
-
--- ---- a call that is no start
-
-pub not-start : (c : Call) → (c ≡ Start → ⊥) → isStart c ≡ false
-unfolding isStart
-not-start Start h = absurd (h refl)
-not-start (Read e d x) h = refl
-not-start (Write e d x) h = refl
-not-start (Execute c i n l r) h = refl
-not-start (Create c d n k l) h = refl
-not-start (CreateRoot c d n l) h = refl
-not-start (Move e d x f t) h = refl
-not-start (Delete e d x k) h = refl
-not-start (CallTask a b) h = refl
-not-start (Invoke a b) h = refl
-not-start (Pass z x y) h = refl
-not-start (Post x z y) h = refl
-not-start (Find x z y) h = refl
-not-start (Mark e) h = refl
-not-start (Step x) h = refl
-not-start Spread h = refl

@@ -9,4 +9,3 @@ pub mod Marked
 pub mod MarkedLaws
 pub mod Proved
 pub mod Script
-pub mod TallyLaws

@@ -37,7 +37,7 @@ use Rattle.trail.specs.Lines.{answered, asked, startedWith, doneBy, line
 use Rattle.trail.specs.Marked.{isMarked, markedLine}
 use Rattle.trail.specs.MarkedLaws.{listed-alike}
 use Rattle.trail.specs.Script.{Progress, lines, zeros, nothingRead, afterLine, afterLines, withMarked, atEnd, output}
-use Rattle.trail.specs.TallyLaws.{zeroed-fits, performed-outcome, performed-fits, start-counted}
+use Rattle.model.specs.TallyLaws.{zeroed-fits, call-out, call-left-fits, start-counted}
 use Rattle.trail.specs.Feeding.{nothingFed}
 use Rattle.trail.specs.FeedingLaws.{written-is, whole, closed-whole}
 use Rattle.trail.specs.Claims.{joined, InPieces, EndsAlike, ListsMarked, callsBy, callsOf, calls, unstarted, standing, Begun, RunsLists, ScriptContained, OverSixteen}
@@ -166,18 +166,18 @@ unfolding doneBy callsBy standing startedWith asked answered
 line-runs Bad o p is a b = rw append-nil (a .0, a .1, a .2, b)
 line-runs Starts o p is a b =
     let s = run is unstarted in
-    let out = performed-outcome o (p .memory) (p .tallies) Start (a .2) in (
+    let out = call-out o (p .memory) (p .tallies) (a .2) Start in (
       rw (run-more is (asks o Start) unstarted, out, a .0) (sym (next-memory o Start s)),
       rw (run-more is (asks o Start) unstarted, out, a .0, a .1) (sym (start-order o s)),
-      performed-fits o (p .memory) (p .tallies) Start (a .2),
+      call-left-fits o (p .memory) (p .tallies) (a .2) Start,
       ⊎-elim (λ e. first-start is o e) (λ g. inr (begun-more is g (asks o Start) (inl refl))) b,
     )
 line-runs (Asks c) o p is a b =
     let s = run is unstarted in
-    let out = performed-outcome (s .order) (p .memory) (p .tallies) c (a .2) in (
+    let out = call-out (s .order) (p .memory) (p .tallies) (a .2) c in (
       rw (a .1, run-more is (asks (s .order) c) unstarted, out, a .0) (sym (next-memory (s .order) c s)),
       rw (a .1, run-more is (asks (s .order) c) unstarted) (sym (next-order c s)),
-      performed-fits (p .order) (p .memory) (p .tallies) c (a .2),
+      call-left-fits (p .order) (p .memory) (p .tallies) (a .2) c,
       rw (a .1) (⊎-elim (λ e. inl (rw e (refused-more is noOrder c e (none-done c)))) (λ g. inr (begun-more is g (asks (s .order) c) (inr (λ d. refl)))) b),
     )
 

@@ -1,10 +1,6 @@
-use mathlib.Core.Path.{refl, sym, ap, _∙_}
+use mathlib.Core.Path.{refl, ap, _∙_}
 use borrow.Author.Needs.{needs}
-use Rattle.rows.specs.Size.{numbers}
-use Rattle.model.specs.Verdicts.{row-state}
 use Rattle.model.specs.State.{memory}
-use Rattle.model.specs.Events.{left}
-use Rattle.model.specs.Monitor.{refusedUnless}
 use Rattle.model.specs.Tallies.{tallied}
 use Rattle.tallies.specs.Counts.{recordsIn}
 use Rattle.tallies.specs.EntryLaws.{performed-is}
