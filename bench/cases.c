@@ -59,7 +59,7 @@ static void build_invoke(struct item *item, const struct plan *plan)
     request(item, TUPEHIWO_CODE_INVOKE, CORE, any(&item->world, TASK), 0, 0, 0);
 }
 
-/* The task with the highest number, so that its tally lies far from the core's. */
+/* The task with the highest number: with many things in use its tally lies far from the core's. */
 static unsigned last_task(struct item *item, const struct plan *plan)
 {
     unsigned n = plan->things - 1;
@@ -69,7 +69,7 @@ static unsigned last_task(struct item *item, const struct plan *plan)
     return n;
 }
 
-static void build_call_of_last(struct item *item, const struct plan *plan)
+static void build_call_by_last(struct item *item, const struct plan *plan)
 {
     unsigned task = last_task(item, plan);
     request(item, TUPEHIWO_CODE_CALL, task, task, 0, 0, 0);
@@ -347,13 +347,13 @@ const struct bench_case cases[] = {
     {"read", build_read, FIRST_THINGS, 1},
     {"write", build_write, FIRST_THINGS, 1},
     {"invoke", build_invoke, FIRST_THINGS, 1},
-    {"call_of_the_last_task", build_call_of_last, FIRST_THINGS, 1},
+    {"call_by_the_last_task", build_call_by_last, FIRST_THINGS, 1},
     {"delete_and_create", build_remade, FIRST_THINGS + 1, 1},
     {"move_between_roots", build_move_of_roots, FIRST_THINGS + 3, 1},
     {"move_granted_after_120_steps", build_move_down, TUPEHIWO_THINGS, 1},
     {"move_refused_after_119_steps", build_move_inside, TUPEHIWO_THINGS, 1},
     {"refusal_with_4", build_unfit, FIRST_THINGS, 1},
-    {"refusal_with_6_of_the_last_task", build_refusal_of_last, FIRST_THINGS, 1},
+    {"refusal_with_6_by_the_last_task", build_refusal_of_last, FIRST_THINGS, 1},
     {"refusal_with_2_at_the_last_record", build_unsound, FIRST_THINGS, 1},
     {"start", build_start, TUPEHIWO_THINGS, 1},
     {"start_with_the_top_as_level_0", build_start_down, TUPEHIWO_THINGS, 1},

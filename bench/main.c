@@ -8,8 +8,6 @@
  *
  * With a word only the cases that have it in their names, and no growth.
  *
- * A library that is lent one tally and not a list of them cannot be measured.
- *
  * One line for each measurement: table, case, things in use, levels, rounds (or
  * the unsound record), and the times of plain C and of the proved library in
  * nanoseconds for each item.
@@ -100,8 +98,8 @@ static void measure_named(const char *word)
 }
 
 /*
- * Whether a start without a list is refused. A library that is lent one tally grants it: the
- * length is handed over in a register that such a library does not read.
+ * Whether a start without a list is refused. A library that is lent one tally grants it: on
+ * x86-64 the length is in a register that such a library does not read.
  */
 static int is_lent_a_list(const struct side *side)
 {

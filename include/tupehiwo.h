@@ -21,11 +21,13 @@
  * text with any of them. Calls on different memory may run at the same time.
  *
  * A call counts on one tally, that of the task that asks, so that the list tells
- * whose calls were refused. The call's first number asks, if it names a task before
- * the call. All else counts on tally 0, the core's: every start, load, mark, step
- * and spread, every call refused with TUPEHIWO_STATE or TUPEHIWO_ORDER, and every
- * call whose first number names no task. A granted start or load sets the whole list
- * to zero, and then counts itself. What a list holds is never tested.
+ * whose calls were refused. In the calls from TUPEHIWO_CODE_READ to TUPEHIWO_CODE_FIND
+ * the first number asks, if it names a task before the call. All else counts on tally
+ * 0, the core's: every start, load, mark, step and spread, every call refused with
+ * TUPEHIWO_STATE or TUPEHIWO_ORDER, and every call whose first number names no task. A
+ * granted start or load sets the whole list to zero, and then counts itself: read the
+ * list before it. What a list holds is never tested, and a new task goes on with what
+ * stands in its tally.
  *
  * A layout is a text that says which tasks and objects an instrument has when it
  * is switched on:
@@ -153,7 +155,7 @@ struct tupehiwo_report {
 
 /*
  * Performs one call on the memory lent and counts it on one tally, as said above. A
- * refusal changes nothing but the refused count of that one. A list of another length
+ * refusal changes nothing but the refused count of that tally. A list of another length
  * than 128 is refused with TUPEHIWO_STATE, and then nothing at all changes. A code
  * that names no call is an unfit number (TUPEHIWO_NUMBER), counted on tally 0.
  */
@@ -168,11 +170,11 @@ struct tupehiwo_answer tupehiwo_perform(uint8_t *bytes, size_t nbytes, uint64_t 
  * none, tupehiwo_execute for a task. Before tupehiwo_create for an object in
  * another, the core and then the new object's driver each write to the container,
  * through the container's driver. The load counts once, on tally 0, its calls not at
- * all. Granted, it sets the list to zero before; refused, it does not.
+ * all. A granted one first sets the list to zero; a refused one does not.
  *
  * As a start does, it tests only the lengths for TUPEHIWO_STATE, then the order;
- * refused so, it leaves bytes and words as they were, and where the list has not 128
- * tallies, the list too. Then the whole text is tested for its form (TUPEHIWO_FORM),
+ * refused so, it leaves bytes and words as they were, and a list of another length than
+ * 128 too. Then the whole text is tested for its form (TUPEHIWO_FORM),
  * then for its depth (TUPEHIWO_DEEP), before any call. The first call that is refused
  * ends the load, which answers with its verdict. After each of these refusals bytes
  * and words are those of a start under the order lent.
@@ -264,9 +266,10 @@ static inline uint8_t tupehiwo_start(struct tupehiwo_monitor *m, struct tupehiwo
 }
 
 /*
- * Begins anew with a layout under an order. Refused with TUPEHIWO_ORDER it keeps
- * bytes, words and the old order; refused otherwise it leaves the core alone, as a
- * start does, under the new one, and the tallies of before with one refusal more.
+ * Begins anew with a layout under an order. A refused one raises the refused count of
+ * tally 0 and keeps the other counts. Refused with TUPEHIWO_ORDER it keeps bytes, words
+ * and the old order too; refused otherwise it leaves the core alone, as a start does,
+ * under the new one.
  */
 static inline uint8_t tupehiwo_monitor_load(struct tupehiwo_monitor *m,
                                             struct tupehiwo_order order, const void *text,

@@ -15,7 +15,7 @@ pub struct Order {
     pub top: u16,
 }
 
-/// How many of a task's calls were granted, slipped and refused; each count stops
+/// How many of the calls that count here were granted, slipped and refused; each count stops
 /// at 4,294,967,295.
 #[repr(C)]
 #[derive(Clone, Copy, Debug, Default, PartialEq, Eq)]

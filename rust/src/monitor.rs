@@ -84,8 +84,8 @@ impl Monitor {
         &self.tallies
     }
 
-    /// How many calls of a task were granted, slipped and refused, since the last
-    /// granted start or load; `None` for the number 128 and more.
+    /// How many calls of a task were granted, slipped and refused, as far as the list
+    /// goes back: at most to the last granted start or load. `None` for 128 and more.
     ///
     /// A call counts once, on the task that asks: its first number, if that names a
     /// task before the call. Tally 0 is the core's, and has the calls too that count
@@ -119,7 +119,8 @@ impl Monitor {
     /// numbers rising.
     ///
     /// Number 0 is there for the core's calls, or for those that no task asked for,
-    /// as [`tally`](Monitor::tally) says.
+    /// as [`tally`](Monitor::tally) says. Read the list before the next start or load:
+    /// a granted one clears it.
     ///
     /// ```
     /// use tupehiwo::{Monitor, Order, Tally, Verdict};
@@ -154,7 +155,7 @@ impl Monitor {
     /// Begins anew under an order: the core alone, at the top.
     ///
     /// A granted start sets all tallies to zero, and then counts itself. A refused
-    /// one keeps the memory and the order of before, and is counted as refused.
+    /// one keeps bytes, words and order, and raises the refused count of tally 0.
     ///
     /// ```
     /// use tupehiwo::{Monitor, Order, Tally, Verdict};
@@ -182,12 +183,12 @@ impl Monitor {
     /// Begins anew with a [`layout`](crate::layout) under an order: the core, and
     /// the tasks and objects of the text.
     ///
-    /// Refused with `Order` it keeps the memory and the order of before. Refused
+    /// Refused with `Order` it keeps bytes, words and the order of before. Refused
     /// otherwise, for its text or with the verdict of the first call that is
     /// refused, it leaves the core alone, as a start does, under the new order.
     ///
-    /// It counts once, on tally 0. A granted load sets all tallies to zero before; a
-    /// refused one keeps them.
+    /// It counts once, on tally 0. A granted load first sets all tallies to zero; a
+    /// refused one only raises the refused count of tally 0.
     ///
     /// ```
     /// use tupehiwo::{Monitor, Order, Tally, Verdict};

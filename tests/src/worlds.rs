@@ -11,6 +11,12 @@ use tupehiwo::ffi::{Order, Tally};
 /// The paper's order Q: a diamond with 0 lowest and 3 the top.
 pub const Q: Order = Order::new(3, [15, 10, 12, 8]);
 
+/// Fails, and leaves what is sound under Q sound.
+pub const FAILING: Order = Order { count: 17, ..Q };
+
+/// One byte too few.
+pub const SHORT: Lengths = Lengths { bytes: Lengths::RIGHT.bytes - 1, ..Lengths::RIGHT };
+
 /// An order that passes, of any count and shape.
 pub fn order(rng: &mut Rng) -> Order {
     if rng.once_in(3) {

@@ -7,7 +7,7 @@ use tupehiwo_tests::compare::Pair;
 use tupehiwo_tests::model::{Lengths, Verdict, calls, read_layout};
 use tupehiwo_tests::rng::{Rng, seed};
 use tupehiwo_tests::texts::{self, NUMBERS, adjoining, nested, written};
-use tupehiwo_tests::worlds::{self, Q};
+use tupehiwo_tests::worlds::{self, FAILING, Q, SHORT};
 use tupehiwo_tests::{prefix, request};
 
 /// The paper's sample.
@@ -381,17 +381,15 @@ fn each_verdict_of_a_call() {
 /// What a load is refused with where several rows apply: 2, 3, 14, 15, a call's.
 #[test]
 fn the_order_of_the_refusals() {
-    let failing = Order { count: 17, ..Q };
-    let short = Lengths { bytes: 1023, ..Lengths::RIGHT };
     let deep = String::from_utf8(nested(9, |_| 0)).expect("a text");
     let refused = "(object 0 driver 0 level 0)\n";
     let unformed = "(object 0 driver 0 level 0) \n";
     let rows: [(Lengths, Order, String, u8); 9] = [
-        (short, failing, format!("{refused}{deep}{unformed}"), 2),
-        (short, Q, SAMPLE.to_string(), 2),
-        (short, Q, unformed.to_string(), 2),
-        (Lengths::RIGHT, failing, format!("{refused}{deep}{unformed}"), 3),
-        (Lengths::RIGHT, failing, SAMPLE.to_string(), 3),
+        (SHORT, FAILING, format!("{refused}{deep}{unformed}"), 2),
+        (SHORT, Q, SAMPLE.to_string(), 2),
+        (SHORT, Q, unformed.to_string(), 2),
+        (Lengths::RIGHT, FAILING, format!("{refused}{deep}{unformed}"), 3),
+        (Lengths::RIGHT, FAILING, SAMPLE.to_string(), 3),
         (Lengths::RIGHT, Q, format!("{refused}{deep}{unformed}"), 14),
         (Lengths::RIGHT, Q, format!("{unformed}{deep}{refused}"), 14),
         (Lengths::RIGHT, Q, format!("{refused}{deep}"), 15),

@@ -4,10 +4,10 @@
 use tupehiwo::ffi::{Order, code};
 use tupehiwo_tests::causes::{MOVED, NESTED};
 use tupehiwo_tests::compare::Pair;
-use tupehiwo_tests::model::{Lengths, Mark, Number, Object, State, THINGS, Task, Thing};
+use tupehiwo_tests::model::{Mark, Number, Object, State, THINGS, Task, Thing};
 use tupehiwo_tests::request;
 use tupehiwo_tests::rng::{Rng, seed};
-use tupehiwo_tests::worlds::{self, Q};
+use tupehiwo_tests::worlds::{self, FAILING, Q, SHORT};
 
 const FLAT: Order = Order::new(0, [1]);
 const PLACE: u8 = 7;
@@ -315,11 +315,9 @@ fn rows_above_and_below() {
             assert_eq!(answer.verdict, verdict, "change {change}, {within}");
         }
     }
-    let failing = Order { count: 17, ..Q };
-    let short = Lengths { bytes: 1023, ..Lengths::RIGHT };
     pair.set_state(nested(true));
-    assert_eq!(pair.perform(failing, request(code::MOVE, &ASKED)).verdict, 3);
-    assert_eq!(pair.perform_with(short, Q, request(code::MOVE, &ASKED)).verdict, 2);
+    assert_eq!(pair.perform(FAILING, request(code::MOVE, &ASKED)).verdict, 3);
+    assert_eq!(pair.perform_with(SHORT, Q, request(code::MOVE, &ASKED)).verdict, 2);
 }
 
 /// Other numbers in the call's places, and the verdict, whether nested or not.

@@ -13,18 +13,23 @@ use tupehiwo_tests::model::{
 use tupehiwo_tests::request;
 use tupehiwo_tests::rng::{Rng, seed};
 use tupehiwo_tests::texts::nested;
-use tupehiwo_tests::worlds::{self, Q};
+use tupehiwo_tests::worlds::{self, FAILING, Q, SHORT};
 
 const GRANTED: u8 = 0;
 const SLIPPED: u8 = 1;
 const STATE: u8 = 2;
 const ORDER: u8 = 3;
 const NUMBER: u8 = 4;
+const TAKEN: u8 = 5;
+const DRIVER: u8 = 6;
+const PLACE: u8 = 7;
+const HELD: u8 = 8;
 const SCALE: u8 = 9;
+const PATH: u8 = 10;
+const RULE: u8 = 11;
+const FILLED: u8 = 12;
 const STILL: u8 = 13;
 
-/// Fails, and leaves what is sound under Q sound.
-const FAILING: Order = Order { count: 17, ..Q };
 const TOP: u16 = Q.top;
 
 fn numbers() -> Range<Number> {
@@ -76,8 +81,9 @@ impl Cast {
         Thing::Object(Object { level, driver: self.driver, container, marked: false })
     }
 
-    /// The same with the driver marked and the object beside the asker's level: what the asker
-    /// reads slips, and but for the core's what it writes and moves.
+    /// The same with the driver marked and the object at 2, the asker at 1 or, if it is the
+    /// core, at the top: the asker's read slips; its write and move slip too, but for the
+    /// core's.
     fn slippery(&self) -> State {
         let mut state = self.state();
         let level = if self.asker == 0 { TOP } else { 1 };
@@ -114,6 +120,56 @@ impl Cast {
             request(code::PASS, &[asker, object, other]),
             request(code::POST, &[asker, object, other]),
             request(code::FIND, &[asker, other, object]),
+        ]
+    }
+
+    /// States, and calls that are refused there with a verdict other than 4 and 9, if the
+    /// asker is not the core: for each such verdict a call of each code that can have it.
+    fn refused(&self) -> Vec<(State, u8, Vec<Request>)> {
+        let &Cast { asker, driver, other, object, from, to, .. } = self;
+        let [read, write, execute, create, root, moving, delete, call, invoke, pass, post, find] =
+            self.asked();
+        let task =
+            |level, read_level| Thing::Task(Task { level, read_level, mark: Mark::Unmarked });
+        let changed = |things: &[(Number, Thing)]| {
+            let mut state = self.state();
+            things.iter().for_each(|&(n, thing)| state.put(n, thing));
+            state
+        };
+        let state = self.state();
+        let mut nothing_held = self.state();
+        for pairs in [&mut nothing_held.flows, &mut nothing_held.reads, &mut nothing_held.writes] {
+            pairs.clear();
+        }
+        let low_driver = changed(&[(driver, task(0, 0))]);
+        let low_asker = changed(&[(asker, task(1, 1))]);
+        let low = self.driven(0, Some(from));
+        let low_object = changed(&[(object, low)]);
+        let low_reads = changed(&[(object, low), (asker, task(TOP, 0)), (other, task(TOP, 0))]);
+        let filled = changed(&[(to, self.driven(TOP, Some(object)))]);
+        let new = |call| with(call, 2, object);
+        let through = |call| with(call, 1, other);
+        vec![
+            (state.clone(), TAKEN, [execute, create, root].map(new).into()),
+            (state.clone(), DRIVER, [read, write, moving, delete].map(through).into()),
+            (
+                state,
+                PLACE,
+                vec![
+                    with(moving, 4, from),
+                    with(delete, 3, to),
+                    with(pass, 2, object),
+                    with(post, 2, asker),
+                    with(find, 2, asker),
+                ],
+            ),
+            (nothing_held, HELD, vec![create, moving, delete, pass, post, find]),
+            (low_driver.clone(), PATH, vec![read, with(call, 1, driver)]),
+            (low_driver, RULE, vec![write, create, root, moving, delete]),
+            (low_asker, RULE, vec![write, create, root, moving, delete, invoke]),
+            (low_object, RULE, vec![read, execute]),
+            (low_reads, RULE, vec![pass, post]),
+            (filled, FILLED, vec![delete]),
         ]
     }
 
@@ -158,7 +214,7 @@ fn raised(mut list: Tallies, record: Number, verdict: u8) -> Tallies {
         SLIPPED => slipped,
         _ => refused,
     };
-    *count = count.checked_add(1).unwrap_or(u32::MAX);
+    *count = count.saturating_add(1);
     list
 }
 
@@ -241,15 +297,38 @@ fn a_slip_counts_on_the_task_that_asks() {
     }
 }
 
+/// With 5 to 8 and 10 to 12, each call that can be: 4 and 9 follow.
+#[test]
+fn every_refusal_counts_on_the_task_that_asks() {
+    let mut ledger = Ledger::new("every_refusal_counts_on_the_task_that_asks");
+    for asker in numbers().skip(1) {
+        for (state, verdict, calls) in Cast::of(asker).refused() {
+            for call in calls {
+                ledger.must_raise(asker, verdict, &state, call);
+            }
+        }
+    }
+}
+
 /// What does not fit in a later place: 9 where the call takes a level, otherwise 4.
 fn unfit(cast: &Cast, call: Request, place: usize) -> Vec<(Number, u8)> {
+    let &Cast { asker, driver, other, object, from, to, free, .. } = cast;
     let high = [128, 129, 255, 256, 65535];
+    let high_or =
+        |more: &[Number], verdict| high.iter().chain(more).map(|&n| (n, verdict)).collect();
     match (call.code, place) {
-        (code::EXECUTE, 3 | 4) | (code::CREATE, 4) | (code::CREATE_ROOT, 3) => {
-            [4].into_iter().chain(high).map(|level| (level, SCALE)).collect()
-        }
-        (code::EXECUTE | code::CREATE | code::CREATE_ROOT, 2) => high.map(|n| (n, NUMBER)).into(),
-        _ => high.into_iter().chain([cast.free]).map(|n| (n, NUMBER)).collect(),
+        // a level
+        (code::EXECUTE, 3 | 4) | (code::CREATE, 4) | (code::CREATE_ROOT, 3) => high_or(&[4], SCALE),
+        // a number for the new thing
+        (code::EXECUTE | code::CREATE | code::CREATE_ROOT, 2) => high_or(&[], NUMBER),
+        // any thing
+        (code::PASS | code::FIND, 2) => high_or(&[free], NUMBER),
+        // an object
+        (code::EXECUTE | code::PASS | code::POST, 1)
+        | (code::READ | code::WRITE | code::MOVE | code::DELETE, 2)
+        | (_, 3 | 4) => high_or(&[free, asker, driver, other], NUMBER),
+        // a task
+        _ => high_or(&[free, object, from, to], NUMBER),
     }
 }
 
@@ -285,11 +364,11 @@ fn an_object_or_a_free_number_that_asks_counts_on_record_0() {
     }
 }
 
-/// Cut to fewer bits, most of these are a task's number.
+/// Cut to fewer bits, the last three are the asker's number.
 #[test]
 fn a_first_number_of_128_or_more_counts_on_record_0() {
     let mut ledger = Ledger::new("a_first_number_of_128_or_more_counts_on_record_0");
-    for asker in [0, 1, 63, 64, 127] {
+    for asker in [1, 2, 63, 64, 127] {
         let cast = Cast::of(asker);
         let state = cast.state();
         for call in cast.asked() {
@@ -423,15 +502,14 @@ fn a_granted_load_zeroes_the_list_and_counts_itself() {
 #[test]
 fn a_refused_load_zeroes_nothing_and_counts_on_record_0() {
     let mut ledger = Ledger::new("a_refused_load_zeroes_nothing_and_counts_on_record_0");
-    let short = Lengths { bytes: 1023, ..Lengths::RIGHT };
     for asker in [0, 1, 64, 127] {
         let state = Cast::of(asker).state();
         for (text, verdict) in refused_texts() {
             for (lengths, order, verdict) in [
                 (Lengths::RIGHT, Q, verdict),
                 (Lengths::RIGHT, FAILING, ORDER),
-                (short, Q, STATE),
-                (short, FAILING, STATE),
+                (SHORT, Q, STATE),
+                (SHORT, FAILING, STATE),
             ] {
                 let before = ledger.lend(&state);
                 assert_eq!(ledger.pair.load_with(lengths, order, &text).verdict, verdict);

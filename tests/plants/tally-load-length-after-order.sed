@@ -1,0 +1,1 @@
+/^struct tupehiwo_answer baseline_load(/,/^}/s/^    if (ntallies != TUPEHIWO_TALLIES)$/    if (ntallies != TUPEHIWO_TALLIES \&\& !ordered(\&order))\n        answer.verdict = TUPEHIWO_ORDER;\n&/
