@@ -69,7 +69,7 @@ pub record Exact {size : Size} (m n : MemoryOf size) : Type 0 where
 abbrev pub SpreadExact : Type 0
 SpreadExact = (size : Size) (o : Order) (m : MemoryOf size) → perform o m Spread .verdict ≡ granted → Exact m (perform o m Spread .memory)
 
--- ---- a repeated mark changes only the tally
+-- ---- a repeated mark changes only the tallies
 
 abbrev pub RepeatedMark : Type 0
 RepeatedMark = (size : Size) (b : Item) (m : MemoryOf size) (is : List Item) → Reached b m is → (e : ℕ) → List·Memᴰ e (run is (begun b m) .outside)
@@ -87,7 +87,7 @@ abbrev pub LoadsSound : Type 0
 LoadsSound = (size : Size) (o : Order) (m : MemoryOf size) (t : List ℕ) → pastOrder (load o m t .verdict) ≡ true
     → (lengthsFit (load o m t .memory) ≡ true) × (soundOf size o (load o m t .memory .bytes) ≡ true)
 
--- so no call and no load of a list, lent tallies of the right length, is refused with 2 under the last granted start's order
+-- so no call and no load of a list is refused with 2 under the last granted start's order; by NeverTested a whole one is so only for the length of its tallies
 abbrev pub NeverUnsound : Type 0
 NeverUnsound = (size : Size) (b : Item) (m : MemoryOf size) (is : List Item) → Reached b m is
     → ((c : Call) → perform (run is (begun b m) .order) (run is (begun b m) .memory) c .verdict ≡ row-state → ⊥)

@@ -31,6 +31,7 @@ use Rattle.model.specs.LoadLaws.{past-rows, past-load, load-past}
 use Rattle.model.specs.Trials.{Q}
 use Rattle.containment.specs.Lists.{Item, asks, reports, loads, lent, StandingOf, Role, starting, marking, other, role, entered, next, run, Admitted, Admissible, leaves, begun, Begins, by-start, by-load}
 use Rattle.containment.specs.Claims.{Reached, Containment, Determined, LeavesSound, RepeatedMark, NeverUnsound, Rooted, FreeBare, DriversAbove, StartGranted, ListsBegin, OwnOrderReached, MarkGranted, SpreadGranted, GrantedUnreached}
+use Rattle.containment.specs.TallyLists.{item}
 use Rattle.containment.specs.TallyClaims.{WholeContainment}
 use Rattle.containment.specs.Tables.{Table, flows, reads, writes, has}
 use Rattle.containment.specs.Invariant.{standing, Joined, Limits, joins, Invariant, contained}
@@ -50,7 +51,7 @@ containment size b m is r = contained (run is (begun b m)) (reached b m is r .li
 
 -- whatever tallies are lent
 pub whole-containment : WholeContainment
-whole-containment size b m is g a = rw (tallies-apart size is (begun b m)) (containment size b m _ (whole-reached size b m is g a))
+whole-containment size b m is g a = rw (tallies-apart size is (begun (item b) m)) (containment size (item b) m _ (whole-reached size b m is g a))
 
 -- what makes the state of a start leaves the same whatever was there
 started-memory : {size : Size} (o : Order) (m : MemoryOf size) → perform o m Start .verdict ≡ granted → perform o m Start .memory ≡ started o

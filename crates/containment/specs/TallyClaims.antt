@@ -1,4 +1,4 @@
--- The claims about tallies, each a short definition, for a state of either size; the proofs stand in TallyProof.antt.
+-- The claims about tallies, each a short definition, for a state of either size; the proofs stand in TallyProof.antt, that of WholeContainment in Proved.antt.
 -- Assumes nothing.
 use mathlib.Core.Path.{_≡_}
 use mathlib.Core.Bool.{true, false}
@@ -16,8 +16,8 @@ use Rattle.model.specs.State.{MemoryOf, task}
 use Rattle.model.specs.Monitor.{refusal, started, perform}
 use Rattle.model.specs.Load.{load, pastOrder}
 use Rattle.model.specs.Tallies.{oneMore, raised, nothingCounted, countedOn, TalliedOf, performed, loaded}
-use Rattle.containment.specs.Lists.{Item, StandingOf, run, begun, Begins}
-use Rattle.containment.specs.TallyLists.{WholeItem, fitting, runWhole, AdmissibleWhole}
+use Rattle.containment.specs.Lists.{StandingOf, run, begun}
+use Rattle.containment.specs.TallyLists.{WholeItem, item, fitting, runWhole, AdmissibleWhole, BeginsWhole}
 use Rattle.containment.specs.Claims.{Contained, Reached}
 
 -- "a lent list of 128", at the small size
@@ -143,8 +143,8 @@ TalliesApart = (size : Size) (is : List WholeItem) (s : StandingOf size) → run
 -- so all claims about lists hold of such lists: what fits makes one of demand 3's lists, if a granted start or a load past row 3 begins it and each
 -- whole call granted or slipped, but for a start, has the last granted start's order
 abbrev pub WholeReached : Type 0
-WholeReached = (size : Size) (b : Item) (m : MemoryOf size) (is : List WholeItem) → Begins m b → AdmissibleWhole is (begun b m) → Reached b m (fitting size is)
+WholeReached = (size : Size) (b : WholeItem) (m : MemoryOf size) (is : List WholeItem) → BeginsWhole m b → AdmissibleWhole is (begun (item b) m) → Reached (item b) m (fitting size is)
 
 -- demand 3 of whole calls and loads
 abbrev pub WholeContainment : Type 0
-WholeContainment = (size : Size) (b : Item) (m : MemoryOf size) (is : List WholeItem) → Begins m b → AdmissibleWhole is (begun b m) → Contained (runWhole is (begun b m))
+WholeContainment = (size : Size) (b : WholeItem) (m : MemoryOf size) (is : List WholeItem) → BeginsWhole m b → AdmissibleWhole is (begun (item b) m) → Contained (runWhole is (begun (item b) m))

@@ -4,9 +4,13 @@ use mathlib.Core.Path.{_≡_}
 use mathlib.Core.Bool.{true, cond}
 use mathlib.Core.Logic.{_⊎_}
 use mathlib.Core.List.{List, [], _∷_}
+use Prim.Native.Nat.{ℕ}
 use Rattle.rows.specs.Size.{Size}
+use Rattle.levels.specs.declared.Order.{Order}
+use Rattle.model.specs.declared.Call.the-variants.{Start}
 use Rattle.model.specs.declared.Tally.{Tally}
-use Rattle.model.specs.Verdicts.{isDone}
+use Rattle.model.specs.Verdicts.{granted, isDone}
+use Rattle.model.specs.State.{MemoryOf}
 use Rattle.model.specs.Load.{pastOrder}
 use Rattle.model.specs.Tallies.{listFits, performed, loaded}
 use Rattle.containment.specs.Lists.{Item, asks, reports, loads, StandingOf, starting, role, entered}
@@ -14,6 +18,9 @@ use Rattle.containment.specs.Lists.{Item, asks, reports, loads, Standing
 -- an item with the tallies that it is lent. A report is lent none: what stands here for it says nothing
 pub data WholeItem : Type 0 where
   with-tallies : List Tally → Item → WholeItem
+
+abbrev pub item : WholeItem → Item
+item (with-tallies ts i) = i
 
 -- the items that are lent a list of the right length
 unfoldable pub fitting : Size → List WholeItem → List Item
@@ -44,3 +51,8 @@ module _ {size : Size} where
   abbrev pub AdmissibleWhole : List WholeItem → StandingOf size → Type 0
   AdmissibleWhole [] s = Unit {0}
   AdmissibleWhole (i ∷ is) s = AdmittedWhole i s × AdmissibleWhole is (nextWhole i s)
+
+-- as `Begins`: a whole start that is granted, or a whole load past row 3
+pub data BeginsWhole {size : Size} (m : MemoryOf size) : WholeItem → Type 0 where
+  by-whole-start : (ts : List Tally) (o : Order) → performed o m ts Start .outcome .verdict ≡ granted → BeginsWhole m (with-tallies ts (asks o Start))
+  by-whole-load : (ts : List Tally) (o : Order) (t : List ℕ) → pastOrder (loaded o m ts t .outcome .verdict) ≡ true → BeginsWhole m (with-tallies ts (loads o t))

@@ -27,8 +27,8 @@ use Rattle.model.specs.Load.{load, pastOrder}
 use Rattle.model.specs.LoadLaws.{laid-refused, load-past, load-kept}
 use Rattle.model.specs.Tallies.{oneMore, raised, nothingCounted, listFits, zeroed, raisedAt, isStart, ifTask, asker, countedOn, TalliedOf, counted, performed, loaded}
 use Rattle.model.specs.TallyLaws.{raised-refused, start-is, counted-within, call-fits, call-other, call-out, load-fits, load-other, load-out}
-use Rattle.containment.specs.Lists.{Item, asks, reports, loads, StandingOf, next, run, Admitted, Admissible, begun}
-use Rattle.containment.specs.TallyLists.{WholeItem, with-tallies, fitting, nextWhole, runWhole, AdmittedWhole, AdmissibleWhole}
+use Rattle.containment.specs.Lists.{Item, asks, reports, loads, StandingOf, next, run, Admitted, Admissible, begun, Begins, by-start, by-load}
+use Rattle.containment.specs.TallyLists.{WholeItem, with-tallies, item, fitting, nextWhole, runWhole, AdmittedWhole, AdmissibleWhole, BeginsWhole, by-whole-start, by-whole-load}
 use Rattle.containment.specs.TallyClaims.{Fits, recordOf, AnotherLength, NeverTested, OnlyRefused, RefusalKeeps, RefusedLoadKeeps, RaisedOnly, OthersKept, AskedBy, of-read, of-write, of-execute, of-create, of-create-root, of-move, of-delete, of-call, of-invoke, of-pass, of-post, of-find, AskedByNone, of-start, of-mark, of-step, of-spread, AllAsked, OnAsker, OnRecordZero, CountsItself, BegunAnew, TalliesApart, WholeReached}
 
 -- ---- the length of the list
@@ -314,5 +314,22 @@ fitting-admissible {size} (with-tallies ts i ∷ is) s a =
       | inr h ↦ rw h (fitting-admissible is s (rw (next-other ts h i s) at (a .1)))
     ]
 
+-- a list of another length is refused with 2, so what begins a list was lent one of the right length
+whole-begins : {size : Size} (b : WholeItem) (m : MemoryOf size) → BeginsWhole m b → Begins m (item b)
+unfolding refusal pastOrder
+whole-begins {size} b m (by-whole-start ts o g) =
+    elim (either (listFits size ts)) [
+      | inl f ↦ by-start o (rw (call-out o m ts f Start) at g)
+      | inr f ↦ absurd (two-not-granted (rw (call-other o m ts f Start) at g))
+    ]
+  where
+    two-not-granted : row-state ≡ granted → ⊥
+    two-not-granted e = omega (arith, e)
+whole-begins {size} b m (by-whole-load ts o t g) =
+    elim (either (listFits size ts)) [
+      | inl f ↦ by-load o t (rw (load-out o m ts f t) at g)
+      | inr f ↦ absurd (false≢true (rw (load-other o m ts f t) at g))
+    ]
+
 pub whole-reached : WholeReached
-whole-reached size b m is g a = record { beginning = g; admissible = fitting-admissible is (begun b m) a }
+whole-reached size b m is g a = record { beginning = whole-begins b m g; admissible = fitting-admissible is (begun (item b) m) a }

@@ -52,26 +52,8 @@ raisedAt i v ts = set ts i (raised (getD ts i nothingCounted) v)
 
 -- ---- who asks
 
-unfoldable pub isStart : Call → Bool
-isStart Start = true
-isStart (Read e d x) = false
-isStart (Write e d x) = false
-isStart (Execute c i n l r) = false
-isStart (Create c d n k l) = false
-isStart (CreateRoot c d n l) = false
-isStart (Move e d x f t) = false
-isStart (Delete e d x k) = false
-isStart (CallTask a b) = false
-isStart (Invoke a b) = false
-isStart (Pass z x y) = false
-isStart (Post x z y) = false
-isStart (Find x z y) = false
-isStart (Mark e) = false
-isStart (Step x) = false
-isStart Spread = false
-
 module _ {size : Size} where
-  -- the number, if it names a task; for a free number, an object's and one past the last 0
+  -- the number, if it names a task; 0 for a free number, an object's, and a number past the last
   unfoldable pub ifTask : MemoryOf size → ℕ → ℕ
   ifTask m x = cond (task m x) x 0
 
@@ -99,6 +81,24 @@ module _ {size : Size} where
   countedOn m c v = cond (pastOrder v) (asker m c) 0
 
 -- ---- whole calls and loads
+
+unfoldable pub isStart : Call → Bool
+isStart Start = true
+isStart (Read e d x) = false
+isStart (Write e d x) = false
+isStart (Execute c i n l r) = false
+isStart (Create c d n k l) = false
+isStart (CreateRoot c d n l) = false
+isStart (Move e d x f t) = false
+isStart (Delete e d x k) = false
+isStart (CallTask a b) = false
+isStart (Invoke a b) = false
+isStart (Pass z x y) = false
+isStart (Post x z y) = false
+isStart (Find x z y) = false
+isStart (Mark e) = false
+isStart (Step x) = false
+isStart Spread = false
 
 -- what a call leaves, and its list
 pub record TalliedOf (size : Size) : Type 0 where

@@ -1,14 +1,14 @@
 -- What the definitions of the tallies come to: the record that a call counts on is one of the list's, and what a whole call or load leaves.
 -- Assumes nothing.
 use mathlib.Core.Path.{_≡_, refl, ap}
-use mathlib.Core.Logic.{inl, inr, ⊎-elim}
+use mathlib.Core.Logic.{inl, inr}
 use mathlib.Core.Bool.{Bool, true, false, cond, _&&_, true≢false, false≢true}
 use mathlib.Core.List.{List}
 use Prim.Native.Nat.{ℕ, _<_}
 use lib.Dec.{eqb}
 use lib.ListN.{length, length-set, length-replicate}
 use borrow.Author.Tests.{eqb-true, eq-eqb, ne-eqb}
-use Rattle.bits.specs.AllLaws.{either, and-l}
+use Rattle.bits.specs.AllLaws.{either, not-so, and-l}
 use Rattle.rows.specs.Size.{Size, numbersOf, lentWords}
 use Rattle.rows.specs.RowLaws.{some-number}
 use Rattle.levels.specs.declared.Order.{Order}
@@ -56,7 +56,7 @@ start-is (Step x) h = absurd (false≢true h)
 start-is Spread h = absurd (false≢true h)
 
 pub not-start : (c : Call) → (c ≡ Start → ⊥) → isStart c ≡ false
-not-start c h = ⊎-elim (λ t. absurd (h (start-is c t))) (λ f. f) (either (isStart c))
+not-start c h = not-so (isStart c) (λ t. h (start-is c t))
 
 past-state : {size : Size} (ok : Bool) (m : MemoryOf size) (out : OutcomeOf size) → pastOrder (refusedUnless ok row-state m out .verdict) ≡ true → ok ≡ true
 unfolding refusedUnless refusal pastOrder

@@ -2,7 +2,7 @@
 -- Assumes nothing.
 use mathlib.Core.Path.{_≡_}
 use mathlib.Core.List.{List, [], _∷_, map}
-use Prim.Native.Nat.{ℕ}
+use Prim.Native.Nat.{ℕ, _+_, _-_}
 use lib.ListN.{replicate, set}
 use Rattle.rows.specs.Size.{numbers}
 use Rattle.levels.specs.declared.Order.{Order}
@@ -46,13 +46,14 @@ abbrev pub WhoAsks : Type 0
 WhoAsks =
     -- task 1, refused for another number: its record
     (countingOn row-number (askedBy 1) ≡ replicate 12 1)
-    -- an object, and a number that is free
+    -- an object, a number that is free, and one past the last
     × (countingOn row-number (askedBy 2) ≡ replicate 12 0)
     × (countingOn row-number (askedBy 4) ≡ replicate 12 0)
+    × (countingOn row-number (askedBy numbers) ≡ replicate 12 0)
     -- with 2 and with 3, whoever asks
     × (countingOn row-state (askedBy 1) ≡ replicate 12 0)
     × (countingOn row-order (askedBy 1) ≡ replicate 12 0)
-    -- nobody
+    -- no task asks
     × (countingOn verdicts.granted (Start ∷ Mark 1 ∷ Step 1 ∷ Spread ∷ []) ≡ replicate 4 0)
 
 -- ---- whole calls and loads
@@ -69,8 +70,8 @@ unfoldable pub onceBut : ℕ → Tally → List Tally
 onceBut i t = set (once numbers) i t
 
 -- nothing, but for one granted call on record 0
-unfoldable pub anew : List Tally
-anew = set (replicate numbers nothingCounted) 0 (counts 1 0 0)
+unfoldable pub begunAnew : List Tally
+begunAnew = set (replicate numbers nothingCounted) 0 (counts 1 0 0)
 
 -- not transitive; its count and its top are those of Q
 unfoldable pub unfit : Order
@@ -82,14 +83,14 @@ Gives done v ts = (done .outcome .verdict ≡ v) × (done .tallies ≡ ts)
 abbrev pub TallyTrials : Type 0
 TallyTrials =
     -- a start zeroes the list, then counts itself; one that is refused zeroes nothing
-    Gives (performed Q unmarked (once numbers) Start) verdicts.granted anew
+    Gives (performed Q unmarked (once numbers) Start) verdicts.granted begunAnew
     × Gives (performed unfit unmarked (once numbers) Start) row-order (onceBut 0 (counts 1 1 2))
     -- so does a load
-    × Gives (loaded Q unmarked (once numbers) []) verdicts.granted anew
+    × Gives (loaded Q unmarked (once numbers) []) verdicts.granted begunAnew
     × Gives (loaded Q unmarked (once numbers) (0x78 ∷ [])) row-form (onceBut 0 (counts 1 1 2))
     -- a record too few or too many
-    × Gives (performed Q unmarked (once 127) (Write 1 3 2)) row-state (once 127)
-    × Gives (performed Q unmarked (once 127) Start) row-state (once 127)
-    × Gives (loaded Q unmarked (once 129) []) row-state (once 129)
+    × Gives (performed Q unmarked (once (numbers - 1)) (Write 1 3 2)) row-state (once (numbers - 1))
+    × Gives (performed Q unmarked (once (numbers - 1)) Start) row-state (once (numbers - 1))
+    × Gives (loaded Q unmarked (once (numbers + 1)) []) row-state (once (numbers + 1))
     -- task 1 is refused a write: its record counts that, and neither the driver's nor the object's
     × Gives (performed Q unmarked (once numbers) (Write 1 3 2)) row-rule (onceBut 1 (counts 1 1 2))

@@ -1,4 +1,4 @@
-// The types of the monitor's face: calls, answers, the tally and the report.
+// The types of the monitor's face: calls, answers, tally records and the report.
 
 // A call with its numbers, told by document 01's letters. Levels are as wide as thing numbers, so that what a caller names reaches
 // the rules uncut.
@@ -42,7 +42,7 @@ pub struct Answer {
     pub rounds: u8,
 }
 
-// How many calls were granted, slipped and refused.
+// A tally record: how many calls were granted, slipped and refused.
 #[repr(C)]
 pub struct Tally {
     pub granted: u32,

@@ -25,12 +25,13 @@ use Rattle.model.specs.ReadyLaws.{ready-sound}
 use Rattle.model.specs.Tallies.{isStart, asker, countedOn}
 use Rattle.model.specs.TallyLaws.{not-start}
 use Rattle.tallies.specs.declared.Entry.{Entry}
-use Rattle.tallies.specs.Entries.{Fitting, Enters}
+use Rattle.tallies.specs.Entries.{InList, Enters}
+use Rattle.monitor.specs.Entered.{CallEntry, LoadEntry}
 use Rattle.monitor.proofs.Rows.{passed, stopped, no-rounds, unfit, disordered}
 
--- what `on_first` says of its entry
+-- what `on_zero` says of its entry
 abbrev pub OnZero : Entry → ℕ → Type 0
-OnZero r v = (r .answer .verdict ≡ v) × (r .answer .rounds ≡ 0) × Enters r 0 (eqb v granted) × Fitting r
+OnZero r v = (r .answer .verdict ≡ v) × (r .answer .rounds ≡ 0) × Enters r 0 (eqb v granted) × InList r
 
 either-way : (y : Bool) (n : ℕ) → cond y n n ≡ n
 either-way true n = refl
@@ -40,32 +41,28 @@ start-on-zero : (m : Memory) (v : ℕ) → countedOn m Start v ≡ 0
 unfolding countedOn asker
 start-on-zero m v = either-way (pastOrder v) 0
 
+-- on record 0, where the model says so
+on-zero : (m : Memory) (call : Call) {out : Outcome} {r : Entry} {v : ℕ} {bs ws : List ℕ} → OnZero r v → countedOn m call v ≡ 0 → (isStart call && eqb v granted) ≡ eqb v granted → left v 0 bs ws ≡ out → CallEntry m call out r bs ws
+on-zero m call z i a d =
+    (no-rounds (z .0, z .1) d, (z .2 .0 ∙ sym (ap (countedOn m call) (z .0) ∙ i), z .2 .1 ∙ sym (ap (λ n. isStart call && eqb n granted) (z .0) ∙ a)), z .3)
+
 module _ (o : Order) (m : Memory) (call : Call) where
-  -- what a call's entry says, where its list has the right length
-  abbrev pub Done : Entry → List ℕ → List ℕ → Type 0
-  Done r bs ws = (left (r .answer .verdict) (r .answer .rounds) bs ws ≡ perform o m call) × Enters r (countedOn m call (r .answer .verdict)) (isStart call && eqb (r .answer .verdict) granted) × Fitting r
-
-  -- on record 0, where the model says so
-  on-zero : {r : Entry} {v : ℕ} {bs ws : List ℕ} → OnZero r v → countedOn m call v ≡ 0 → (isStart call && eqb v granted) ≡ eqb v granted → left v 0 bs ws ≡ perform o m call → Done r bs ws
-  on-zero {r} {v} z i a d =
-      (no-rounds (z .0, z .1) d, (z .2 .0 ∙ sym (ap (countedOn m call) (z .0) ∙ i), z .2 .1 ∙ sym (ap (λ n. isStart call && eqb n granted) (z .0) ∙ a)), z .3)
-
-  pub start-entry : call ≡ Start → {r : Entry} {v : ℕ} {bs ws : List ℕ} → OnZero r v → left v 0 bs ws ≡ start o m → Done r bs ws
+  pub start-entry : call ≡ Start → {r : Entry} {v : ℕ} {bs ws : List ℕ} → OnZero r v → left v 0 bs ws ≡ start o m → CallEntry m call (perform o m call) r bs ws
   unfolding isStart
-  start-entry e {v = v} z d = on-zero z (ap (λ (c : Call). countedOn m c v) e ∙ start-on-zero m v) (ap (λ (c : Call). isStart c && eqb v granted) e) (d ∙ ap (perform o m) (sym e))
+  start-entry e {v = v} z d = on-zero m call z (ap (λ (c : Call). countedOn m c v) e ∙ start-on-zero m v) (ap (λ (c : Call). isStart c && eqb v granted) e) (d ∙ ap (perform o m) (sym e))
 
   module _ (later : call ≡ Start → ⊥) where
-    pub state-entry : not (lengthsFit m && sound o (m .bytes)) ≡ true → {r : Entry} → OnZero r row-state → Done r (m .bytes) (m .words)
+    pub state-entry : not (lengthsFit m && sound o (m .bytes)) ≡ true → {r : Entry} → OnZero r row-state → CallEntry m call (perform o m call) r (m .bytes) (m .words)
     unfolding countedOn pastOrder
-    state-entry f z = on-zero z refl (and-false (isStart call)) (sym (unfit o m call later f))
+    state-entry f z = on-zero m call z refl (and-false (isStart call)) (sym (unfit o m call later f))
 
-    pub order-entry : not (lengthsFit m && sound o (m .bytes)) ≡ false → not (orderPasses o) ≡ true → {r : Entry} → OnZero r row-order → Done r (m .bytes) (m .words)
+    pub order-entry : not (lengthsFit m && sound o (m .bytes)) ≡ false → not (orderPasses o) ≡ true → {r : Entry} → OnZero r row-order → CallEntry m call (perform o m call) r (m .bytes) (m .words)
     unfolding countedOn pastOrder
-    order-entry f p z = on-zero z refl (and-false (isStart call)) (sym (disordered o m call later f p))
+    order-entry f p z = on-zero m call z refl (and-false (isStart call)) (sym (disordered o m call later f p))
 
     -- past rows 2 and 3: on the asker's
     pub event-entry : Ready o (m .bytes) (m .words) → {a : Answer} {k : ℕ} {bs ws : List ℕ} → left (a .verdict) (a .rounds) bs ws ≡ perform o m call → k ≡ asker m call → k < numbers
-        → Done (record { answer = a; number = k; anew = false }) bs ws
+        → CallEntry m call (perform o m call) (record { answer = a; number = k; anew = false }) bs ws
     unfolding countedOn
     event-entry r {a} {k} d e l =
         let past = past-rows o (r .2) m (ready-sound o m r) call in
@@ -78,24 +75,17 @@ module _ (m : Memory) (lent : ℕ) (out : Outcome) where
   pub fitting : lent ≡ numbers → out ≡ refusedUnless (eqb lent numbers) row-state m out
   fitting e = sym (passed (eqb lent numbers) row-state m out (eq-eqb _ _ e))
 
-  another : (lent ≡ numbers → ⊥) → left row-state 0 (m .bytes) (m .words) ≡ refusedUnless (eqb lent numbers) row-state m out
+  pub another : (lent ≡ numbers → ⊥) → left row-state 0 (m .bytes) (m .words) ≡ refusedUnless (eqb lent numbers) row-state m out
   another e = sym (stopped (eqb lent numbers) row-state m out (ne-eqb _ _ e))
 
-  -- a call, and a load, that is lent a list of another length
-  pub another-entry : (call : Call) → (lent ≡ numbers → ⊥) → {r : Entry} → OnZero r row-state
-      → (left (r .answer .verdict) (r .answer .rounds) (m .bytes) (m .words) ≡ refusedUnless (eqb lent numbers) row-state m out) × Enters r (countedOn m call (r .answer .verdict)) (isStart call && eqb (r .answer .verdict) granted) × Fitting r
+  -- a call that is lent a list of another length
+  pub another-entry : (call : Call) → (lent ≡ numbers → ⊥) → {r : Entry} → OnZero r row-state → CallEntry m call (refusedUnless (eqb lent numbers) row-state m out) r (m .bytes) (m .words)
   unfolding countedOn pastOrder
-  another-entry call e z =
-      (no-rounds (z .0, z .1) (another e), (z .2 .0 ∙ sym (ap (countedOn m call) (z .0)), z .2 .1 ∙ sym (ap (λ n. isStart call && eqb n granted) (z .0) ∙ and-false (isStart call))), z .3)
+  another-entry call e z = on-zero m call z refl (and-false (isStart call)) (another e)
 
-  pub load-refused : (lent ≡ numbers → ⊥) → {r : Entry} → OnZero r row-state
-      → (left (r .answer .verdict) (r .answer .rounds) (m .bytes) (m .words) ≡ refusedUnless (eqb lent numbers) row-state m out) × Enters r 0 (eqb (r .answer .verdict) granted) × Fitting r
-  load-refused e z = (no-rounds (z .0, z .1) (another e), (z .2 .0, z .2 .1 ∙ sym (ap (λ n. eqb n granted) (z .0))), z .3)
-
-  -- a load that is lent one of the right length
-  pub load-entry : lent ≡ numbers → {r : Entry} {v : ℕ} {bs ws : List ℕ} → OnZero r v → left v 0 bs ws ≡ out
-      → (left (r .answer .verdict) (r .answer .rounds) bs ws ≡ refusedUnless (eqb lent numbers) row-state m out) × Enters r 0 (eqb (r .answer .verdict) granted) × Fitting r
-  load-entry e z d = (no-rounds (z .0, z .1) d ∙ fitting e, (z .2 .0, z .2 .1 ∙ sym (ap (λ n. eqb n granted) (z .0))), z .3)
+-- a load, by what it came to
+pub load-entry : {out : Outcome} {r : Entry} {v : ℕ} {bs ws : List ℕ} → OnZero r v → left v 0 bs ws ≡ out → LoadEntry out r bs ws
+load-entry z d = (no-rounds (z .0, z .1) d, (z .2 .0, z .2 .1 ∙ sym (ap (λ n. eqb n granted) (z .0))), z .3)
 
 -- the length as it was counted
 pub counted-length : (m : Memory) (out : Outcome) {k n : ℕ} → k ≡ n → refusedUnless (eqb k numbers) row-state m out ≡ refusedUnless (eqb n numbers) row-state m out

@@ -1,4 +1,4 @@
--- The exported calls over a lent list of tallies: each passes the lent memory, the list's length, the order and one parameter more to a function that judges by value, then the list with the entry to `enter`, and returns the entry's answer. Here is their MIR, and one walk of it, by hand.
+-- The exported calls over a lent list of tallies: each passes the lent memory, the list's length, the order and one parameter more to a function that answers with an entry, then the list with the entry to `enter`, and returns the entry's answer. Here is their MIR, and one walk of it, by hand.
 -- All three slices are passed on at their own lifetimes, shares and ghost names, so they are given up for good (`gave-slice`), no lifetime is made and nothing has to come back. The machine values of the order and of the last parameter are never looked into, and what they own goes to the callee as it came.
 -- Assumes nothing.
 use mathlib.Core.Path.{_≡_, refl, sym, ap, subst}
@@ -38,7 +38,7 @@ use denote.Triple.Walked.{says}
 use Rattle.model.specs.declared.Tally.{Tally}
 use Rattle.model.specs.declared.Answer.{Answer}
 use Rattle.tallies.specs.declared.Entry.{Entry}
-use Rattle.tallies.specs.Entries.{Fitting, enteredAs}
+use Rattle.tallies.specs.Entries.{InList, enteredAs}
 use Rattle.levels.proofs.Order.Laws as O′
 use Rattle.model.proofs.Tally as T
 use Rattle.model.proofs.Tally.Laws as T′
@@ -121,7 +121,7 @@ Entered 𝓤 H A mem run = tripleOf 𝓤 H A entering.signature (entering.spec �
 
 module _ {M : Type 1} (𝓤 : URA M) (H : Heap 𝓤) (A : Atoms 𝓤) (W : Given 𝓤 H A) (mem : Memory → SProp 𝓤) (run : Routine → Fun 𝓤) (κ₀ κ₁ κ₂ : Lft) (q₀ q₁ q₂ : Share) (more : Item 𝓤)
     (x₀ x₁ : RefT (List ℕ)) (x₂ : RefT (List Tally)) (mo mk : Val) (rest : Fml) (Did : Entry → List ℕ → List ℕ → Type 0) (Told : Entry → List ℕ → List ℕ → List Tally → Type 0)
-    (fits : (r : Entry) (xs ys : List ℕ) → Did r xs ys → Fitting r) (sums : (r : Entry) (xs ys : List ℕ) (zs : List Tally) → Did r xs ys → zs ≡ enteredAs r (x₂ .now) → Told r xs ys zs) where
+    (fits : (r : Entry) (xs ys : List ℕ) → Did r xs ys → InList r) (sums : (r : Entry) (xs ys : List ℕ) (zs : List Tally) → Did r xs ys → zs ≡ enteredAs r (x₂ .now) → Told r xs ys zs) where
   abbrev s₀ : Val
   s₀ = sliceVal (x₀ .ptr) (length (x₀ .now))
 
@@ -182,9 +182,9 @@ module _ {M : Type 1} (𝓤 : URA M) (H : Heap 𝓤) (A : Atoms 𝓤) (W : Given
   abbrev to-enter : Entry → Entered 𝓤 H A mem run .Ghost
   to-enter r = (((κ₂, tt), (q₂, tt), tt, (x₂, (r, tt)), (s₂ ∷ [], (me r ∷ [], tt))), tt)
 
-  goes-enter : (r : Entry) → Fitting r → Is R.the-row r (me r ∷ []) → ent 𝓤 (sep 𝓤 (A .lft κ₂ q₂) (sem 𝓤 H A (MutSlice (named 0) κ₂ T.the-row .own x₂ (s₂ ∷ [])))) (Entered 𝓤 H A mem run .pre (to-enter r))
+  goes-enter : (r : Entry) → InList r → Is R.the-row r (me r ∷ []) → ent 𝓤 (sep 𝓤 (A .lft κ₂ q₂) (sem 𝓤 H A (MutSlice (named 0) κ₂ T.the-row .own x₂ (s₂ ∷ [])))) (Entered 𝓤 H A mem run .pre (to-enter r))
   goes-enter r f is =
-      qed W (‵ (flft κ₂ q₂) ∷ ‵ (MutSlice (named 0) κ₂ T.the-row .own x₂ (s₂ ∷ [])) ∷ []) ∵ says ! {φ = Fitting r} {P = onEntry 𝓤 H A entering.signature (κ₂, tt) (q₂, tt) (x₂, (r, tt)) (s₂ ∷ [], (me r ∷ [], tt))} f $ nothing ! $ move ! (1 ∷ 0 ∷ []) $ join ! $
+      qed W (‵ (flft κ₂ q₂) ∷ ‵ (MutSlice (named 0) κ₂ T.the-row .own x₂ (s₂ ∷ [])) ∷ []) ∵ says ! {φ = InList r} {P = onEntry 𝓤 H A entering.signature (κ₂, tt) (q₂, tt) (x₂, (r, tt)) (s₂ ∷ [], (me r ∷ [], tt))} f $ nothing ! $ move ! (1 ∷ 0 ∷ []) $ join ! $
       nothing ! $ owned ! R.the-row (Is R.the-row) (LL.makes R.the-type R′.the-plain 𝓤 H A) r _ is $ fjoin ! $ move ! (2 ∷ 0 ∷ []) $ fjoin ! $ move ! (1 ∷ 0 ∷ []) $ frame ! $ done !
 
   abbrev entered : Val → Entry → Item 𝓤

@@ -11,13 +11,14 @@ ghost use Rattle.model.specs.Ready.{Ready};
 ghost use Rattle.model.specs.Events.{left};
 ghost use Rattle.model.specs.Monitor as model;
 ghost use Rattle.model.specs.Monitor.{refusedUnless, started, nextMarked};
-ghost use Rattle.model.specs.Tallies.{isStart, countedOn, tallied, performed, loaded};
+ghost use Rattle.model.specs.Tallies.{tallied, performed, loaded};
 ghost use Rattle.model.specs.Load as loads;
 ghost use Rattle.model.specs.Load.{inTurn, whole, layoutChecked};
 ghost use Rattle.loading.specs.Calls.{callsIn};
-ghost use Rattle.tallies.specs.Entries.{Fitting, Enters};
-ghost use Rattle.tallies.specs.Counts.{recordsIn, over};
+ghost use Rattle.tallies.specs.Entries.{InList, Enters};
+ghost use Rattle.tallies.specs.Counts.{recordsIn, leftOver};
 ghost use Rattle.monitor.specs.Request.{callOf};
+ghost use Rattle.monitor.specs.Entered.{CallEntry, LoadEntry};
 use layout::Text;
 use levels::Order;
 use model::Answer;
@@ -119,9 +120,9 @@ fn plain(verdict: u8) -> Answer
     Answer { verdict, rounds: 0 }
 }
 
-// The entry on the first record, of a start, of a load, and of a call refused with 2 or 3: a granted one zeroes the list.
-fn on_first(verdict: u8) -> Entry
-    ensures { λ r. ⌜ (r .answer .verdict ≡ verdict) × (r .answer .rounds ≡ 0) × Enters r 0 (eqb verdict granted) × Fitting r ⌝ }
+// The entry on record 0, of a start, of a load, and of a call refused with 2 or 3: a granted one zeroes the list.
+fn on_zero(verdict: u8) -> Entry
+    ensures { λ r. ⌜ (r .answer .verdict ≡ verdict) × (r .answer .rounds ≡ 0) × Enters r 0 (eqb verdict granted) × InList r ⌝ }
 {
     let answer = plain(verdict);
     Entry {
@@ -178,17 +179,16 @@ fn event(bytes: &mut [u8], words: &mut [u64], order: Order, call: Call) -> Answe
 
 // A call that is lent a list of the right length: done on bytes and words, to be entered afterwards.
 fn carry_out(bytes: &mut [u8], words: &mut [u64], order: Order, call: Call) -> Entry
-    ensures { λ r. ⌜ (left (r .answer .verdict) (r .answer .rounds) (now (bytes .exit)) (now (words .exit)) ≡ model.perform order (memory (now (bytes .entry)) (now (words .entry))) call)
-        × Enters r (countedOn (memory (now (bytes .entry)) (now (words .entry))) call (r .answer .verdict)) (isStart call && eqb (r .answer .verdict) granted) × Fitting r ⌝ }
+    ensures { λ r. ⌜ CallEntry (memory (now (bytes .entry)) (now (words .entry))) call (model.perform order (memory (now (bytes .entry)) (now (words .entry))) call) r (now (bytes .exit)) (now (words .exit)) ⌝ }
 {
     if let Call::Start = call {
-        return on_first(start(bytes, words, order));
+        return on_zero(start(bytes, words, order));
     }
     if !fits(bytes, words, order) {
-        return on_first(model::STATE);
+        return on_zero(model::STATE);
     }
     if !levels::order_passes(order) {
-        return on_first(model::ORDER);
+        return on_zero(model::ORDER);
     }
     let number = tallies::asker(bytes, call);
     let answer = event(bytes, words, order, call);
@@ -201,11 +201,10 @@ fn carry_out(bytes: &mut [u8], words: &mut [u64], order: Order, call: Call) -> E
 
 // The same for a list of so many records: another length is refused with 2.
 fn call_lent(bytes: &mut [u8], words: &mut [u64], lent: usize, order: Order, call: Call) -> Entry
-    ensures { λ r. ⌜ (left (r .answer .verdict) (r .answer .rounds) (now (bytes .exit)) (now (words .exit)) ≡ refusedUnless (eqb lent numbers) row-state (memory (now (bytes .entry)) (now (words .entry))) (model.perform order (memory (now (bytes .entry)) (now (words .entry))) call))
-        × Enters r (countedOn (memory (now (bytes .entry)) (now (words .entry))) call (r .answer .verdict)) (isStart call && eqb (r .answer .verdict) granted) × Fitting r ⌝ }
+    ensures { λ r. ⌜ CallEntry (memory (now (bytes .entry)) (now (words .entry))) call (refusedUnless (eqb lent numbers) row-state (memory (now (bytes .entry)) (now (words .entry))) (model.perform order (memory (now (bytes .entry)) (now (words .entry))) call)) r (now (bytes .exit)) (now (words .exit)) ⌝ }
 {
     if lent != records::RECORDS {
-        return on_first(model::STATE);
+        return on_zero(model::STATE);
     }
     carry_out(bytes, words, order, call)
 }
@@ -219,7 +218,7 @@ pub fn perform(
     call: Call,
 ) -> Answer
     ensures { λ r. ⌜ (tallied (left (r .verdict) (r .rounds) (now (bytes .exit)) (now (words .exit))) (recordsIn (now (counts .exit))) ≡ performed order (memory (now (bytes .entry)) (now (words .entry))) (recordsIn (now (counts .entry))) call)
-        × (over (now (counts .exit)) ≡ over (now (counts .entry))) ⌝ }
+        × (leftOver (now (counts .exit)) ≡ leftOver (now (counts .entry))) ⌝ }
 {
     let lent = tallies::records_in(counts);
     let entry = call_lent(bytes, words, lent, order, call);
@@ -227,7 +226,7 @@ pub fn perform(
     entry.answer
 }
 
-// The same for a request.
+// As call_lent, for a request.
 fn request_lent(
     bytes: &mut [u8],
     words: &mut [u64],
@@ -235,8 +234,7 @@ fn request_lent(
     order: Order,
     request: Request,
 ) -> Entry
-    ensures { λ r. ⌜ (left (r .answer .verdict) (r .answer .rounds) (now (bytes .exit)) (now (words .exit)) ≡ refusedUnless (eqb lent numbers) row-state (memory (now (bytes .entry)) (now (words .entry))) (model.perform order (memory (now (bytes .entry)) (now (words .entry))) (callOf request)))
-        × Enters r (countedOn (memory (now (bytes .entry)) (now (words .entry))) (callOf request) (r .answer .verdict)) (isStart (callOf request) && eqb (r .answer .verdict) granted) × Fitting r ⌝ }
+    ensures { λ r. ⌜ CallEntry (memory (now (bytes .entry)) (now (words .entry))) (callOf request) (refusedUnless (eqb lent numbers) row-state (memory (now (bytes .entry)) (now (words .entry))) (model.perform order (memory (now (bytes .entry)) (now (words .entry))) (callOf request))) r (now (bytes .exit)) (now (words .exit)) ⌝ }
 {
     let call = call_of(request);
     call_lent(bytes, words, lent, order, call)
@@ -287,13 +285,12 @@ fn load(bytes: &mut [u8], words: &mut [u64], order: Order, text: &[u8]) -> u8
 
 // A load that is lent a list of so many records.
 fn load_lent(bytes: &mut [u8], words: &mut [u64], lent: usize, order: Order, text: &[u8]) -> Entry
-    ensures { λ r. ⌜ (left (r .answer .verdict) (r .answer .rounds) (now (bytes .exit)) (now (words .exit)) ≡ refusedUnless (eqb lent numbers) row-state (memory (now (bytes .entry)) (now (words .entry))) (loads.load order (memory (now (bytes .entry)) (now (words .entry))) (now (text .entry))))
-        × Enters r 0 (eqb (r .answer .verdict) granted) × Fitting r ⌝ }
+    ensures { λ r. ⌜ LoadEntry (refusedUnless (eqb lent numbers) row-state (memory (now (bytes .entry)) (now (words .entry))) (loads.load order (memory (now (bytes .entry)) (now (words .entry))) (now (text .entry)))) r (now (bytes .exit)) (now (words .exit)) ⌝ }
 {
     if lent != records::RECORDS {
-        return on_first(model::STATE);
+        return on_zero(model::STATE);
     }
-    on_first(load(bytes, words, order, text))
+    on_zero(load(bytes, words, order, text))
 }
 
 // A whole load over the lent list, as C and Rust call it.

@@ -8,7 +8,8 @@ use native.Mathlib.Omega.{arith}
 use lib.ListN.{length, replicate, drop, getD, set}
 use Rattle.model.specs.declared.Tally.{Tally}
 use Rattle.model.specs.Tallies.{nothingCounted, raised, raisedAt}
-use Rattle.tallies.specs.Counts.{recordsIn, over, firstZeroed}
+use Rattle.tallies.specs.Entries.{firstZeroed}
+use Rattle.tallies.specs.Counts.{recordsIn, leftOver}
 
 -- ---- how many records there are
 
@@ -36,7 +37,7 @@ third i = omega arith
 
 -- the first records zeroed
 pub zeroed-in : (k : ℕ) (ns : List ℕ) → k ≤ length (recordsIn ns) → recordsIn (replicate (3 * k) 0 ++ drop (3 * k) ns) ≡ firstZeroed k (recordsIn ns)
-unfolding recordsIn firstZeroed
+unfolding recordsIn
 zeroed-in zero ns l = refl
 zeroed-in (suc k) [] l = absurd (not-suc-le-zero l)
 zeroed-in (suc k) (g ∷ []) l = absurd (not-suc-le-zero l)
@@ -44,8 +45,8 @@ zeroed-in (suc k) (g ∷ s ∷ []) l = absurd (not-suc-le-zero l)
 zeroed-in (suc k) (g ∷ s ∷ r ∷ ns) l = rw (next k) (ap (λ (ts : List Tally). nothingCounted ∷ ts) (zeroed-in k ns (le-of-suc-le-suc l)))
 
 -- and what is left over is kept
-pub zeroed-over : (k : ℕ) (ns : List ℕ) → k ≤ length (recordsIn ns) → over (replicate (3 * k) 0 ++ drop (3 * k) ns) ≡ over ns
-unfolding recordsIn over
+pub zeroed-over : (k : ℕ) (ns : List ℕ) → k ≤ length (recordsIn ns) → leftOver (replicate (3 * k) 0 ++ drop (3 * k) ns) ≡ leftOver ns
+unfolding recordsIn leftOver
 zeroed-over zero ns l = refl
 zeroed-over (suc k) [] l = absurd (not-suc-le-zero l)
 zeroed-over (suc k) (g ∷ []) l = absurd (not-suc-le-zero l)
@@ -81,8 +82,8 @@ raised-in ns i v t l e =
     record-written ns i t l ∙ ap (λ (a : Tally). set (recordsIn ns) i a) (e ∙ ap (λ (a : Tally). raised a v) (sym (record-read ns i l)))
 
 -- and what is left over is kept
-pub written-over : (ns : List ℕ) (i : ℕ) (t : Tally) → i < length (recordsIn ns) → over (set (set (set ns (3 * i) (t .granted)) (3 * i + 1) (t .slipped)) (3 * i + 2) (t .refused)) ≡ over ns
-unfolding recordsIn over
+pub written-over : (ns : List ℕ) (i : ℕ) (t : Tally) → i < length (recordsIn ns) → leftOver (set (set (set ns (3 * i) (t .granted)) (3 * i + 1) (t .slipped)) (3 * i + 2) (t .refused)) ≡ leftOver ns
+unfolding recordsIn leftOver
 written-over [] i t l = absurd (not-suc-le-zero l)
 written-over (g ∷ []) i t l = absurd (not-suc-le-zero l)
 written-over (g ∷ s ∷ []) i t l = absurd (not-suc-le-zero l)

@@ -22,16 +22,15 @@ use Rattle.model.specs.Monitor.{refusedUnless, perform}
 use Rattle.model.specs.Load.{load}
 use Rattle.model.specs.Tallies.{nothingCounted, listFits, zeroed, raisedAt, isStart, countedOn, tallied, withList, counted, performed, loaded}
 use Rattle.tallies.specs.declared.Entry.{Entry}
-use Rattle.tallies.specs.Entries.{Enters, enteredAs}
-use Rattle.tallies.specs.Counts.{firstZeroed}
+use Rattle.tallies.specs.Entries.{Enters, firstZeroed, enteredAs}
 
 -- ---- what is zeroed: all records of a list, or none
 
-all-zeroed : (k : ℕ) (ts : List Tally) → length ts ≤ k → replicate k nothingCounted ++ drop k ts ≡ replicate k nothingCounted
+all-zeroed : (k : ℕ) (ts : List Tally) → length ts ≤ k → firstZeroed k ts ≡ replicate k nothingCounted
 all-zeroed k ts l = ap (λ (rest : List Tally). replicate k nothingCounted ++ rest) (drop-of-length-le ts l) ∙ append-nil (replicate k nothingCounted)
 
 pub zeroed-or-kept : (anew : Bool) (ts : List Tally) → length ts ≡ numbers → firstZeroed (boolByte anew * numbers) ts ≡ cond anew (zeroed present) ts
-unfolding firstZeroed zeroed
+unfolding zeroed
 zeroed-or-kept true ts e = all-zeroed numbers ts (omega arith)
 zeroed-or-kept false ts e = refl
 

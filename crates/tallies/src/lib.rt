@@ -8,8 +8,8 @@ ghost use Rattle.records.specs.Records.{BytesLent};
 ghost use Rattle.model.specs.State.{memory};
 ghost use Rattle.model.specs.Tallies as model;
 ghost use Rattle.model.specs.Tallies.{oneMore, raised, raisedAt, ifTask};
-ghost use Rattle.tallies.specs.Entries.{Fitting, enteredAs};
-ghost use Rattle.tallies.specs.Counts.{recordsIn, over, firstZeroed};
+ghost use Rattle.tallies.specs.Entries.{InList, firstZeroed, enteredAs};
+ghost use Rattle.tallies.specs.Counts.{recordsIn, leftOver};
 use model::Answer;
 use model::Call;
 use model::Tally;
@@ -28,7 +28,7 @@ pub struct Entry {
 fn one_more(n: u32) -> u32
     ensures { λ r. ⌜ r ≡ oneMore n ⌝ }
 {
-    if n < 4294967295 { n + 1 } else { n }
+    if n < u32::MAX { n + 1 } else { n }
 }
 
 // The record with a verdict counted.
@@ -97,7 +97,7 @@ pub fn asker(bytes: &[u8], call: Call) -> u16
 
 // Enters a call in its list: what begins anew zeroes it first, then one record is raised. A list of another length stays as it is.
 pub fn enter(tallies: &mut [Tally], entry: Entry)
-    requires { ⌜ Fitting entry ⌝ }
+    requires { ⌜ InList entry ⌝ }
     ensures { λ _. ⌜ now (tallies .exit) ≡ enteredAs entry (now (tallies .entry)) ⌝ }
 {
     if tallies.len() != records::RECORDS {
@@ -119,7 +119,7 @@ pub fn enter(tallies: &mut [Tally], entry: Entry)
     tallies[number] = after;
 }
 
-// How many records a list of plain numbers holds, three numbers to a record.
+// How many records a list of plain numbers holds, three numbers to a record; one or two left over belong to none.
 pub fn records_in(counts: &[u32]) -> usize
     ensures { λ r. ⌜ r ≡ length (recordsIn (now (counts .entry))) ⌝ }
 {
@@ -129,7 +129,7 @@ pub fn records_in(counts: &[u32]) -> usize
 // The first n records of such a list zeroed.
 fn zero_counts(counts: &mut [u32], n: usize)
     requires { ⌜ 3 * n ≤ length (now counts) ⌝ }
-    ensures { λ _. ⌜ (recordsIn (now (counts .exit)) ≡ firstZeroed n (recordsIn (now (counts .entry)))) × (over (now (counts .exit)) ≡ over (now (counts .entry))) ⌝ }
+    ensures { λ _. ⌜ (recordsIn (now (counts .exit)) ≡ firstZeroed n (recordsIn (now (counts .entry)))) × (leftOver (now (counts .exit)) ≡ leftOver (now (counts .entry))) ⌝ }
 {
     let end = COUNTS * n;
     let mut i = 0;
@@ -142,7 +142,7 @@ fn zero_counts(counts: &mut [u32], n: usize)
 // One record of such a list raised.
 fn raise_counts(counts: &mut [u32], number: usize, verdict: u8)
     requires { ⌜ 3 * number + 2 < length (now counts) ⌝ }
-    ensures { λ _. ⌜ (recordsIn (now (counts .exit)) ≡ raisedAt number verdict (recordsIn (now (counts .entry)))) × (over (now (counts .exit)) ≡ over (now (counts .entry))) ⌝ }
+    ensures { λ _. ⌜ (recordsIn (now (counts .exit)) ≡ raisedAt number verdict (recordsIn (now (counts .entry)))) × (leftOver (now (counts .exit)) ≡ leftOver (now (counts .entry))) ⌝ }
 {
     let i = COUNTS * number;
     let granted = counts[i];
@@ -161,8 +161,8 @@ fn raise_counts(counts: &mut [u32], number: usize, verdict: u8)
 
 // Enters a call in a list of plain numbers, as programs in Rattle lend it: what goes through a reference to structs is proved by hand.
 pub fn enter_counts(counts: &mut [u32], entry: Entry)
-    requires { ⌜ Fitting entry ⌝ }
-    ensures { λ _. ⌜ (recordsIn (now (counts .exit)) ≡ enteredAs entry (recordsIn (now (counts .entry)))) × (over (now (counts .exit)) ≡ over (now (counts .entry))) ⌝ }
+    requires { ⌜ InList entry ⌝ }
+    ensures { λ _. ⌜ (recordsIn (now (counts .exit)) ≡ enteredAs entry (recordsIn (now (counts .entry)))) × (leftOver (now (counts .exit)) ≡ leftOver (now (counts .entry))) ⌝ }
 {
     if records_in(counts) != records::RECORDS {
         return;

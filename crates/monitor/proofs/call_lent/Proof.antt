@@ -9,8 +9,8 @@ returns : tie.Need-returns
 returns c =
     let s : tie.Start = search in
     let i : tie.Then1 = search in
-    let z : tie.After-on-first = search in
-    another-entry (memory (s .args .bytes .now) (s .args .words .now)) (s .args .lent) _ (s .args .call) (i .if1 .taken) (z .on-first .ensures)
+    let z : tie.After-on-zero = search in
+    another-entry (memory (s .args .bytes .now) (s .args .words .now)) (s .args .lent) _ (s .args .call) (i .if1 .taken) (z .on-zero .ensures)
 
 returns-2 : tie.Need-returns-2
 returns-2 c =

@@ -10,21 +10,21 @@ returns c =
     let s : tie.Start = search in
     let t : tie.After-enum-told = search in
     let b : tie.After-start = search in
-    let z : tie.After-on-first = search in
-    start-entry (s .args .order) (memory (s .args .bytes .now) (s .args .words .now)) (s .args .call) (t .enum-told .given .1) (z .on-first .ensures) (b .start .ensures)
+    let z : tie.After-on-zero = search in
+    start-entry (s .args .order) (memory (s .args .bytes .now) (s .args .words .now)) (s .args .call) (t .enum-told .given .1) (z .on-zero .ensures) (b .start .ensures)
 
 -- each row is told by what was tested, wherever in the function that was
 returns-2 : tie.Need-returns-2
 returns-2 c =
     let s : tie.Start = search in
-    let z : tie.After-on-first2 = search in
-    state-entry (s .args .order) (memory (s .args .bytes .now) (s .args .words .now)) (s .args .call) (no-start (s .args .call) (search)) (cc) (z .on-first2 .ensures)
+    let z : tie.After-on-zero2 = search in
+    state-entry (s .args .order) (memory (s .args .bytes .now) (s .args .words .now)) (s .args .call) (no-start (s .args .call) (search)) (cc) (z .on-zero2 .ensures)
 
 returns-3 : tie.Need-returns-3
 returns-3 c =
     let s : tie.Start = search in
-    let z : tie.After-on-first3 = search in
-    order-entry (s .args .order) (memory (s .args .bytes .now) (s .args .words .now)) (s .args .call) (no-start (s .args .call) (search)) (cc) (cc) (z .on-first3 .ensures)
+    let z : tie.After-on-zero3 = search in
+    order-entry (s .args .order) (memory (s .args .bytes .now) (s .args .words .now)) (s .args .call) (no-start (s .args .call) (search)) (cc) (cc) (z .on-zero3 .ensures)
 
 asker-requires : tie.Need-asker-requires
 asker-requires c κs =

@@ -1,6 +1,7 @@
+use mathlib.Core.Path.{_∙_}
 use borrow.Author.Needs.{needs}
 use Rattle.model.specs.State.{memory}
-use Rattle.monitor.proofs.Entering.{load-refused, load-entry}
+use Rattle.monitor.proofs.Entering.{fitting, another, load-entry}
 use Rattle.monitor.proofs.load_lent.Statement.{statement}
 use Rattle.monitor.proofs.load_lent.Tie as tie
 
@@ -8,16 +9,16 @@ returns : tie.Need-returns
 returns c =
     let s : tie.Start = search in
     let i : tie.Then1 = search in
-    let z : tie.After-on-first = search in
-    load-refused (memory (s .args .bytes .now) (s .args .words .now)) (s .args .lent) _ (i .if1 .taken) (z .on-first .ensures)
+    let z : tie.After-on-zero = search in
+    load-entry (z .on-zero .ensures) (another (memory (s .args .bytes .now) (s .args .words .now)) (s .args .lent) _ (i .if1 .taken))
 
 returns-2 : tie.Need-returns-2
 returns-2 c =
     let s : tie.Start = search in
     let i : tie.Else1 = search in
     let l : tie.After-load = search in
-    let z : tie.After-on-first2 = search in
-    load-entry (memory (s .args .bytes .now) (s .args .words .now)) (s .args .lent) _ (i .if1 .left) (z .on-first2 .ensures) (l .load .ensures)
+    let z : tie.After-on-zero2 = search in
+    load-entry (z .on-zero2 .ensures) (l .load .ensures ∙ fitting (memory (s .args .bytes .now) (s .args .words .now)) (s .args .lent) _ (i .if1 .left))
 
 pub load-lent-spec : {M : Type 1} → statement M
 load-lent-spec =

@@ -30,7 +30,7 @@ use denote.Triple.Table.{entered, cited}
 use denote.Triple.Walked.{Stays, stay-dropped, gave-slice, AllGo, goes-dropped, goes-gave-slice, Walks, ends-at, walked, walk-meets}
 use denote.Exit.{yes}
 use Rattle.rows.specs.Size.{numbers}
-use Rattle.model.specs.Verdicts.{granted, row-state}
+use Rattle.model.specs.Verdicts.{row-state}
 use Rattle.model.specs.State.{memory}
 use Rattle.model.specs.Events.{left}
 use Rattle.model.specs.Monitor.{refusedUnless}
@@ -39,8 +39,9 @@ use Rattle.model.specs.Tallies.{tallied, loaded}
 use Rattle.levels.specs.declared.Order.{Order}
 use Rattle.model.specs.declared.Tally.{Tally}
 use Rattle.tallies.specs.declared.Entry.{Entry}
-use Rattle.tallies.specs.Entries.{Fitting, Enters, enteredAs}
+use Rattle.tallies.specs.Entries.{enteredAs}
 use Rattle.tallies.specs.EntryLaws.{loaded-is}
+use Rattle.monitor.specs.Entered.{LoadEntry}
 use Rattle.levels.proofs.Order as O
 use Rattle.levels.proofs.Order.Laws as O′
 use Rattle.model.proofs.Tally as T
@@ -66,8 +67,7 @@ Judged 𝓤 H A mem run = tripleOf 𝓤 H A judged.signature (judged.spec 𝓤 H
 
 abbrev Did : List ℕ → List ℕ → ℕ → Order → List ℕ → Entry → List ℕ → List ℕ → Type 0
 Did bs ws l o t r xs ys =
-    (left (r .answer .verdict) (r .answer .rounds) xs ys ≡ refusedUnless (eqb l numbers) row-state (memory bs ws) (loads.load o (memory bs ws) t))
-    × Enters r 0 (eqb (r .answer .verdict) granted) × Fitting r
+    LoadEntry (refusedUnless (eqb l numbers) row-state (memory bs ws) (loads.load o (memory bs ws) t)) r xs ys
 
 abbrev textTy : Ty
 textTy = sliceTy (tyRef (named 3) imm (tyInt w8))

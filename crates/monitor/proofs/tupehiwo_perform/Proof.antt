@@ -1,7 +1,6 @@
 -- `monitor::tupehiwo_perform` meets its contract, by the walk of `Thin.antt`. All that the proof knows of `request_lent` and of `enter` is that each meets its contract.
 -- Assumes nothing.
 use mathlib.Core.Path.{_≡_, refl, ap, _∙_}
-use mathlib.Core.Bool.{_&&_}
 use Prim.Native.Nat.{ℕ}
 use mathlib.Core.List.{[], _∷_, List}
 use lib.Dec.{eqb}
@@ -30,16 +29,17 @@ use denote.Triple.Table.{entered, cited}
 use denote.Triple.Walked.{Stays, stay-dropped, gave-slice, AllGo, goes-dropped, goes-gave-slice, Walks, ends-at, walked, walk-meets}
 use denote.Exit.{yes}
 use Rattle.rows.specs.Size.{numbers}
-use Rattle.model.specs.Verdicts.{granted, row-state}
+use Rattle.model.specs.Verdicts.{row-state}
 use Rattle.model.specs.State.{memory}
 use Rattle.model.specs.Events.{left}
 use Rattle.model.specs.Monitor.{refusedUnless, perform}
-use Rattle.model.specs.Tallies.{isStart, countedOn, tallied, performed}
+use Rattle.model.specs.Tallies.{tallied, performed}
 use Rattle.levels.specs.declared.Order.{Order}
 use Rattle.model.specs.declared.Tally.{Tally}
 use Rattle.tallies.specs.declared.Entry.{Entry}
-use Rattle.tallies.specs.Entries.{Fitting, Enters, enteredAs}
+use Rattle.tallies.specs.Entries.{enteredAs}
 use Rattle.tallies.specs.EntryLaws.{performed-is}
+use Rattle.monitor.specs.Entered.{CallEntry}
 use Rattle.monitor.specs.Request.{callOf}
 use Rattle.monitor.specs.declared.Request.{Request}
 use Rattle.levels.proofs.Order as O
@@ -69,8 +69,7 @@ Judged 𝓤 H A mem run = tripleOf 𝓤 H A judged.signature (judged.spec 𝓤 H
 
 abbrev Did : List ℕ → List ℕ → ℕ → Order → Request → Entry → List ℕ → List ℕ → Type 0
 Did bs ws l o k r xs ys =
-    (left (r .answer .verdict) (r .answer .rounds) xs ys ≡ refusedUnless (eqb l numbers) row-state (memory bs ws) (perform o (memory bs ws) (callOf k)))
-    × Enters r (countedOn (memory bs ws) (callOf k) (r .answer .verdict)) (isStart (callOf k) && eqb (r .answer .verdict) granted) × Fitting r
+    CallEntry (memory bs ws) (callOf k) (refusedUnless (eqb l numbers) row-state (memory bs ws) (perform o (memory bs ws) (callOf k))) r xs ys
 
 -- what the exported function says
 abbrev Told : List ℕ → List ℕ → List Tally → Order → Request → Entry → List ℕ → List ℕ → List Tally → Type 0

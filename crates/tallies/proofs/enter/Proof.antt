@@ -59,8 +59,7 @@ use Rattle.model.proofs.Tally.Laws as T′
 use Rattle.model.proofs.Answer as N
 use Rattle.model.proofs.Answer.Laws as N′
 use Rattle.tallies.specs.declared.Entry.{Entry}
-use Rattle.tallies.specs.Entries.{Fitting, enteredAs}
-use Rattle.tallies.specs.Counts.{firstZeroed}
+use Rattle.tallies.specs.Entries.{InList, firstZeroed, enteredAs}
 use Rattle.tallies.specs.EntryLaws.{at-most, unfit-kept, fit-entered}
 use Rattle.tallies.proofs.Entry as R
 use Rattle.tallies.proofs.Entry.Laws as R′
@@ -74,10 +73,7 @@ use Rattle.tallies.proofs.enter.Statement as stated
 use Rattle.tallies.proofs.enter.Code as code
 use Rattle.tallies.proofs.enter.Code.Mir as code-mir
 
--- ---- lists: the first k records zeroed
-
-abbrev zeroedTo : ℕ → List Tally → List Tally
-zeroedTo k ts = replicate k nothingCounted ++ drop k ts
+-- ---- lists: the first k records zeroed, as in `borrow.Author.Fill`, which is for numbers
 
 -- one more
 fill-suc : (k : ℕ) (t : Tally) (ts : List Tally) → k < length ts → set (replicate k t ++ drop k ts) k t ≡ replicate (suc k) t ++ drop (suc k) ts
@@ -89,7 +85,7 @@ fill-more : (k : ℕ) (t : Tally) (ts : List Tally) → k < length ts → set (r
 fill-more k t ts l = let e : k + 1 ≡ suc k = omega arith in subst (λ (j : ℕ). set (replicate k t ++ drop k ts) k t ≡ replicate j t ++ drop j ts) (sym e) (fill-suc k t ts l)
 
 -- as long as before
-same-length : (k : ℕ) (ts : List Tally) → k ≤ length ts → length (zeroedTo k ts) ≡ length ts
+same-length : (k : ℕ) (ts : List Tally) → k ≤ length ts → length (firstZeroed k ts) ≡ length ts
 same-length k ts l = let d = length-drop k ts in simp (length-append, length-replicate) (omega (arith, d, l))
 
 -- ---- the locals' types, each with its block
@@ -120,7 +116,7 @@ module _ {M : Type 1} (𝓤 : URA M) (H : Heap 𝓤) (A : Atoms 𝓤) (mem : Mem
   raised-of t v r = exE 𝓤 _ (λ ws. snd∗ 𝓤 (sem 𝓤 H A (lasts raising.ended tt (t, (v, tt)) ws)) (fact 𝓤 (r ≡ raised t v)))
 
 module _ {M : Type 1} (𝓤 : URA M) (H : Heap 𝓤) (A : Atoms 𝓤) (W : Given 𝓤 H A) (mem : Memory → SProp 𝓤) (run : Routine → Fun 𝓤) (κ : Lft) (q : Share) (b o : ℕ) (γ : GName) (ts : List Tally) (n : Entry)
-    (room : Room T.the-row (length ts)) (n-is : Is R.the-row n (LL.vals R.the-type R′.the-laws n)) (fits : Fitting n) where
+    (room : Room T.the-row (length ts)) (n-is : Is R.the-row n (LL.vals R.the-type R′.the-laws n)) (fits : InList n) where
   abbrev x : List Tally → RefT (List Tally)
   x l = record { ptr = (b, o); name = γ; now = l }
 
@@ -165,9 +161,9 @@ module _ {M : Type 1} (𝓤 : URA M) (H : Heap 𝓤) (A : Atoms 𝓤) (W : Given
 
   -- how many records are zeroed: none or all
   abbrev bound : ℕ
-  bound = boolByte (n .anew) * 128
+  bound = boolByte (n .anew) * numbers
 
-  bound-small : bound ≤ 128
+  bound-small : bound ≤ numbers
   bound-small = at-most (n .anew)
 
   bound-fits : bound < 2 ^ 64
@@ -189,7 +185,7 @@ module _ {M : Type 1} (𝓤 : URA M) (H : Heap 𝓤) (A : Atoms 𝓤) (W : Given
   next-fits i less = let l = bound-small in omega (arith, l, less)
 
   abbrev filled : ℕ → List Tally
-  filled i = zeroedTo i ts
+  filled i = firstZeroed i ts
 
   module _ (long : length ts ≡ numbers) where
     in-list : (i : Upto) → i .0 < bound → i .0 < length ts
@@ -211,20 +207,20 @@ module _ {M : Type 1} (𝓤 : URA M) (H : Heap 𝓤) (A : Atoms 𝓤) (W : Given
     left-long i r = length-set (filled (i .0)) (n .number) r ∙ same-length (i .0) ts (within-list i)
 
     left-is : (i : Upto) → bound ≤ i .0 → (r : Tally) → r ≡ raised (getD (filled (i .0)) (n .number) nothingCounted) v → set (filled (i .0)) (n .number) r ≡ enteredAs n ts
-    unfolding raisedAt firstZeroed
+    unfolding raisedAt
     left-is i over r e =
         let at : i .0 ≡ bound = le-antisymm (i .1) over in
         ap (λ (z : Tally). set (filled (i .0)) (n .number) z) e ∙ ap (λ (k : ℕ). raisedAt (n .number) v (filled k)) at ∙ fit-entered n ts long
 
-  same-long : Holds (not (not (eqb (length ts) 128))) → length ts ≡ numbers
-  same-long h = eqb→eq (length ts) 128 (twice (eqb (length ts) 128) h)
+  same-long : Holds (not (not (eqb (length ts) numbers))) → length ts ≡ numbers
+  same-long h = eqb→eq (length ts) numbers (twice (eqb (length ts) numbers) h)
     where
       twice : (y : Bool) → Holds (not (not y)) → Holds y
       twice true h = tt
       twice false h = h
 
-  other-long : Holds (not (eqb (length ts) 128)) → length ts ≡ numbers → ⊥
-  other-long h e = T-not (eqb (length ts) 128) h (subst (λ (k : ℕ). Holds (eqb (length ts) k)) e (eqb-refl (length ts)))
+  other-long : Holds (not (eqb (length ts) numbers)) → length ts ≡ numbers → ⊥
+  other-long h e = T-not (eqb (length ts) numbers) h (subst (λ (k : ℕ). Holds (eqb (length ts) k)) e (eqb-refl (length ts)))
 
   -- ---- at the end
 
@@ -238,7 +234,7 @@ module _ {M : Type 1} (𝓤 : URA M) (H : Heap 𝓤) (A : Atoms 𝓤) (W : Given
       move ! (1 ∷ 0 ∷ []) $ fjoin ! $ feqI ! (List Val) (vunit ∷ []) (vunit ∷ []) refl $ move ! (1 ∷ 0 ∷ []) $ done !
 
   -- a list of another length is as it was
-  exits-other : Holds (not (eqb (length ts) 128)) → ent 𝓤 (⋆ 𝓤 H A ((‵ (flft κ q) ⊛ ‵ ftrue) ∷ ‵ (owns (MutSlice (named 0) κ T.the-row ∷ R.the-row ∷ []) a vals) ∷ [])) (Post vunit)
+  exits-other : Holds (not (eqb (length ts) numbers)) → ent 𝓤 (⋆ 𝓤 H A ((‵ (flft κ q) ⊛ ‵ ftrue) ∷ ‵ (owns (MutSlice (named 0) κ T.the-row ∷ R.the-row ∷ []) a vals) ∷ [])) (Post vunit)
   exits-other other =
       qed W ((‵ (flft κ q) ⊛ ‵ ftrue) ∷ ‵ (owns (MutSlice (named 0) κ T.the-row ∷ R.the-row ∷ []) a vals) ∷ []) ∵
       suffices ! _ (ends-at 𝓤 H A f.ended stayed (f.clauses 𝓤 H A mem run) W (((κ, tt), (q, tt), tt, a, vals), tt) vunit tt (ts, (tt, tt)) (refl, (tt, tt))) $
@@ -380,7 +376,7 @@ module _ {M : Type 1} (𝓤 : URA M) (H : Heap 𝓤) (A : Atoms 𝓤) (W : Given
   enter-walks : (𝓣 : Tables 𝓤 H) → FmC 𝓤 H (W .laws) (𝓣 .C) → Triple 𝓤 (𝓣 .C #tallies·raise) (Raised 𝓤 H A mem run) → Walks 𝓤 H A f.ended stayed (WpFn 𝓤 H (𝓣 .C) (𝓣 .Λ) code.function) (f.clauses 𝓤 H A mem run)
   enter-walks 𝓣 fm known = walked 𝓤 H A f.ended stayed (f.clauses 𝓤 H A mem run) (WpFn 𝓤 H (𝓣 .C) (𝓣 .Λ) code.function)
       (λ κs. (slice-vals, (LL.vals R.the-type R′.the-laws, tt))) (λ κs. (mut-slice-tells (named 0) (κs .0) T.the-row, (LL.tells R.the-type R′.the-laws, tt)))
-      (λ κs qs bounds a g are. needs 𝓤 (Fitting (a .1 .0)) _ (λ fits.
+      (λ κs qs bounds a g are. needs 𝓤 (InList (a .1 .0)) _ (λ fits.
       walk 𝓤 H A W mem run (κs .0) (qs .0) (a .0 .ptr .0) (a .0 .ptr .1) (a .0 .name) (a .0 .now) (a .1 .0) (are .0 .0 .1) (are .1 .0) fits 𝓣 fm known))
 
   goes : AllGo 𝓤 H A W 1 (f.signature .params) (f.ended .kept) stayed

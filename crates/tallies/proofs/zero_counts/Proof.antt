@@ -7,7 +7,7 @@ use native.Mathlib.Omega.{arith}
 use lib.ListN.{length, drop, replicate, length-set}
 use borrow.Author.Needs.{needs}
 use borrow.Author.Fill.{fill-none, fill-more}
-use Rattle.tallies.specs.Counts.{recordsIn, over}
+use Rattle.tallies.specs.Counts.{recordsIn, leftOver}
 use Rattle.tallies.specs.CountLaws.{held, zeroed-in, zeroed-over}
 use Rattle.tallies.proofs.zero_counts.Statement.{statement}
 use Rattle.tallies.proofs.zero_counts.Tie as tie
@@ -49,7 +49,7 @@ returns c =
     let done : c .before .loop .i ≡ 3 * s .args .n = omega arith in
     let left = c .before .loop .inv .3 ∙ ap (λ (k : ℕ). replicate k 0 ++ drop k (s .args .counts .now)) done in
     let l = held _ _ (s .pre) in
-    (ap recordsIn left ∙ zeroed-in (s .args .n) (s .args .counts .now) l, ap over left ∙ zeroed-over (s .args .n) (s .args .counts .now) l)
+    (ap recordsIn left ∙ zeroed-in (s .args .n) (s .args .counts .now) l, ap leftOver left ∙ zeroed-over (s .args .n) (s .args .counts .now) l)
 
 pub zero-counts-spec : {M : Type 1} → statement M
 zero-counts-spec =

@@ -1,13 +1,13 @@
 use mathlib.Core.Path.{refl}
 use native.Mathlib.Omega.{arith}
 use borrow.Author.Needs.{needs}
-use Rattle.monitor.proofs.on_first.Statement.{statement}
-use Rattle.monitor.proofs.on_first.Tie as tie
+use Rattle.monitor.proofs.on_zero.Statement.{statement}
+use Rattle.monitor.proofs.on_zero.Tie as tie
 
 returns : tie.Need-returns
 returns c =
     let p : tie.After-plain = search in
     (p .plain .ensures .0, p .plain .ensures .1, (refl, refl), omega arith)
 
-pub on-first-spec : {M : Type 1} → statement M
-on-first-spec = tie.close (tie.spec (λ c κs. search needs) returns)
+pub on-zero-spec : {M : Type 1} → statement M
+on-zero-spec = tie.close (tie.spec (λ c κs. search needs) returns)
