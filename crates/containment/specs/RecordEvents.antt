@@ -112,9 +112,12 @@ module _ {size : Size} (s : StandingOf size) (ok : IsOrder (s .order)) (k : Limi
         ),
       )
 
-  pub delete-allowed : (e d x q : ℕ) → Holds (delete o m e d x q .tests) → AllAllowed s (delete o m e d x q .effects)
-  unfolding delete
-  delete-allowed e d x q h =
-      let a = simp and-eq-true-iff at (h .0) in
-      let tx = a .0 .1 in
-      (tx, (λ p. to-driver (clear x) tx (clear-follows s ok k x tx) e d (a .0 .0 .0) (a .0 .0 .1) p, tt))
+pub delete-allowed : {size : Size} (s : StandingOf size) (ok : IsOrder (s .order)) (k : Limits s) (e d x q : ℕ) → Holds (delete (s .order) (s .memory) e d x q .tests) → AllAllowed s (delete (s .order) (s .memory) e d x q .effects)
+unfolding delete effect object task marked
+delete-allowed {size} s ok k e d x q h =
+    let a = simp and-eq-true-iff at (h .0) in
+    let tx = a .0 .1 in
+    let ux = object-used (s .memory) x tx in
+    let b = after s (bridge x) in
+    let kb = effect-keeps s ok k (bridge x) ux in
+    (ux, (tx, (λ p. to-driver b ok kb (clear x) tx (clear-follows b ok kb x tx) e d (a .0 .0 .0) (a .0 .0 .1) p, tt)))

@@ -1,7 +1,3 @@
-pub mod Sets
-pub mod WordLaws
-pub mod WalkLaws
-pub mod SetLaws
 pub mod ReportLaws
 pub mod FirstLaws
 pub mod Plain

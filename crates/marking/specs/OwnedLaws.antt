@@ -22,9 +22,9 @@ use Rattle.model.specs.State.{Memory, object, driverOf, marked}
 use Rattle.model.specs.StateLaws.{object-used}
 use Rattle.model.specs.SpreadLaws.{unmarked}
 use Rattle.model.specs.Effects.{objectOf}
-use Rattle.marking.specs.declared.sets.Set.{Set}
-use Rattle.marking.specs.Sets.{has, setOf}
-use Rattle.marking.specs.SetLaws.{in-set}
+use Rattle.sets.specs.declared.Set.{Set}
+use Rattle.sets.specs.Sets.{has, setOf}
+use Rattle.sets.specs.SetLaws.{in-set}
 use Rattle.marking.specs.Rounds.{Driven, Put, Table, puts, ownRow}
 
 pub sound-driven : (o : Order) (bs : List ℕ) → sound o bs ≡ true → Driven bs

@@ -16,7 +16,7 @@ use Rattle.model.specs.Spread.{reached, driven, round}
 use Rattle.model.specs.StateLaws.{marked-below, object-used}
 use Rattle.model.specs.MarkLaws.{MoreMarks, kept-inUse, kept-object, kept-driver, kept-flow, kept-marked, where-more, where-length}
 use Rattle.model.specs.SpreadLaws.{Sized, byFlows, more-round, marked-flows, marked-round, unmarked}
-use Rattle.marking.specs.Sets.{joined}
+use Rattle.sets.specs.Sets.{joined}
 use Rattle.marking.specs.Rounds.{Table, byFlow, byDriver}
 use Rattle.marking.specs.MarksLaws.{kept-objectOf}
 

@@ -7,10 +7,10 @@ use Prim.Native.Nat.{ℕ, _+_, _*_, _<_}
 use lib.ListN.{getD}
 use Rattle.rows.specs.Size.{rowSize, numbers}
 use Rattle.rows.specs.Rows.{cell}
-use Rattle.marking.specs.declared.sets.Set.{Set}
-use Rattle.marking.specs.Sets.{has, setOf, joined}
-use Rattle.marking.specs.SetLaws.{pair, in-set, set-ext, has-row}
-use Rattle.marking.specs.WalkLaws.{joined-ext}
+use Rattle.sets.specs.declared.Set.{Set}
+use Rattle.sets.specs.Sets.{has, setOf, joined}
+use Rattle.sets.specs.SetLaws.{pair, in-set, set-ext, has-row}
+use Rattle.sets.specs.WalkLaws.{joined-ext}
 use Rattle.marking.specs.Rounds.{byFlow, byDriver, roundSet}
 
 module _ (flows owned : List ℕ) (unmarked sources : Set) {fed reached either driving theirs driven : Set}

@@ -19,11 +19,11 @@ use Rattle.model.specs.Effects.{markWhere}
 use Rattle.model.specs.Spread.{reached, driven, round, marksSome, rounds, afterRounds, spread}
 use Rattle.model.specs.MarkLaws.{MoreMarks, more-none, more-then, kept-inUse, kept-marked, where-length}
 use Rattle.model.specs.SpreadLaws.{Sized, Closed, sized-more, byFlows, round-only, more-round, marked-round, unmarked, round-fewer, rest-rounds, after-keeps, spread-only}
-use Rattle.marking.specs.declared.sets.Set.{Set}
+use Rattle.sets.specs.declared.Set.{Set}
 use Rattle.marking.specs.declared.rounds.Spread.{Spread}
-use Rattle.marking.specs.Sets.{last, has, setOf, joined}
-use Rattle.marking.specs.SetLaws.{in-set, set-ext}
-use Rattle.marking.specs.WalkLaws.{joined-ext}
+use Rattle.sets.specs.Sets.{last, has, setOf, joined}
+use Rattle.sets.specs.SetLaws.{in-set, set-ext}
+use Rattle.sets.specs.WalkLaws.{joined-ext}
 use Rattle.marking.specs.MarksLaws.{Marks, marks-none, marks-ext, marks-then, marks-where, marks-same, kept-objectOf}
 use Rattle.marking.specs.Rounds.{Table, byFlow, byDriver, roundSet, spreadSets}
 use Rattle.marking.specs.RoundLaws.{Sources, round-is, first-sources, next-sources}

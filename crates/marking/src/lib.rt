@@ -1,7 +1,6 @@
 // Marking: mark and step, the spread, and the report of what is marked.
 mod marks;
 mod rounds;
-mod sets;
 
 use levels::Order;
 use model::Report;

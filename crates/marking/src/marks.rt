@@ -1,8 +1,7 @@
 // The marks of records.
 use crate::DRIVER;
 use crate::MARKS;
-use crate::sets;
-use crate::sets::Set;
+use sets::Set;
 ghost use mathlib.Core.Path.{_≡_};
 ghost use mathlib.Core.Bool.{_&&_};
 ghost use mathlib.Core.List.{List, []};
@@ -12,7 +11,7 @@ ghost use Rattle.rows.specs.Size.{numbers};
 ghost use Rattle.records.specs.Records.{BytesLent, field, kind};
 ghost use Rattle.model.specs.State.{memory, marked, hasFlow};
 ghost use Rattle.model.specs.Effects.{markWhere, objectOf, effect, mark-outside, mark-thing};
-ghost use Rattle.marking.specs.Sets.{Within, has, inWord};
+ghost use Rattle.sets.specs.Sets.{Within, has, inWord};
 ghost use Rattle.marking.specs.Plain.{Plain};
 
 // The numbers of a word are marked. A mark that is there stays as it is.

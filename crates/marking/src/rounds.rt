@@ -1,8 +1,7 @@
 // The rounds of a spread, on sets.
 use crate::DRIVER;
 use crate::KIND;
-use crate::sets;
-use crate::sets::Set;
+use sets::Set;
 ghost use mathlib.Core.Path.{_≡_};
 ghost use mathlib.Core.Bool.{true};
 ghost use Prim.Native.Nat.{_+_, _/_, _%_, _≤_};
@@ -13,7 +12,7 @@ ghost use Rattle.rows.specs.Rows.{addCell};
 ghost use Rattle.records.specs.Records.{BytesLent, driver, isObject};
 ghost use Rattle.model.specs.State as state;
 ghost use Rattle.model.specs.State.{memory};
-ghost use Rattle.marking.specs.Sets.{last, Within, has, setOf, inWord, TableLent};
+ghost use Rattle.sets.specs.Sets.{last, Within, has, setOf, inWord, TableLent};
 ghost use Rattle.marking.specs.Rounds.{OwnedRows, Driven, Put, ownRow, roundSet, spreadSets};
 
 // The words of the rows of the drivers' objects, one row for each number, and of one more for the drivers themselves.

@@ -6,18 +6,18 @@ use mathlib.Core.Bool.{Bool, true, false, not, cond, _&&_, _||_, and-eq-true-iff
 use mathlib.Core.List.{List, [], _∷_}
 use Prim.Native.Nat.{ℕ, zero, suc, _<_}
 use native.Mathlib.Omega.{arith}
-use lib.Dec.{eqb}
+use lib.Dec.{eqb, ltb}
 use lib.ListN.{length, getD, getD-replicate}
-use borrow.Author.Tests.{eqb-true, eqb-false, eq-eqb, ne-eqb}
+use borrow.Author.Tests.{eqb-true, eqb-false, eq-eqb, ne-eqb, lt-ltb, le-ltb}
 use Rattle.bits.specs.All.{one}
 use Rattle.bits.specs.AllLaws.{either, and-i, and-l, and-r, or-false, or-true, both-ways}
 use Rattle.rows.specs.Rows.{cell, addCell}
-use Rattle.rows.specs.RowLaws.{same-place, place-below, cell-add, cell-clear, length-add, length-clear}
+use Rattle.rows.specs.RowLaws.{same-place, place-below, cell-add, cell-clear, cell-bridged, length-add, length-clear, length-bridged}
 use Rattle.rows.specs.Size.{Size, rowSizeOf, numbersOf, tables, lentWords}
 use Rattle.records.specs.Records.{field, setField, setRecord, marks, isTask, isObject, containerByte, spareByte, lentBytes}
 use Rattle.records.specs.RecordLaws.{field-same, field-else, length-field, Fields, length-record, record-else, record-same}
 use Rattle.model.specs.State.{MemoryOf, rowOf, lengthsFit, inUse, task, object, levelOf, readLevelOf, driverOf, marked, hasFlow, hasRead, hasWrite}
-use Rattle.model.specs.Effects.{Effect, flow, flow-if, read-access, write-access, make-task, make-object, move-to, clear, mark-outside, mark-thing, objectOf, withBytes, effect, effects}
+use Rattle.model.specs.Effects.{Effect, flow, flow-if, read-access, write-access, make-task, make-object, move-to, bridge, clear, mark-outside, mark-thing, objectOf, feeder, fedBy, withBytes, effect, effects}
 use Rattle.model.specs.MarkLaws.{where-words, where-length, where-field, where-marks, marked-where}
 
 -- ---- what an effect has to fit
@@ -44,6 +44,7 @@ Fits size (write-access e x) = (e < numbersOf size) × (x < numbersOf size)
 Fits size (make-task n l r) = n < numbersOf size
 Fits size (make-object n l d c b) = n < numbersOf size
 Fits size (move-to x c) = x < numbersOf size
+Fits size (bridge x) = Unit {0}
 Fits size (clear x) = x < numbersOf size
 Fits size (mark-outside e) = e < numbersOf size
 Fits size (mark-thing x) = x < numbersOf size
@@ -59,6 +60,7 @@ effect-bytes (write-access e x) m = refl
 effect-bytes (make-task n l r) m = length-record (m .bytes) n _ _ _ _ _ _ _
 effect-bytes (make-object n l d p b) m = length-record (m .bytes) n _ _ _ _ _ _ _
 effect-bytes (move-to x c) m = length-field (m .bytes) x _ _
+effect-bytes (bridge x) m = refl
 effect-bytes (clear x) m = length-record (m .bytes) x _ _ _ _ _ _ _
 effect-bytes (mark-outside e) m = where-length _ _ ∙ length-field (m .bytes) e _ _
 effect-bytes (mark-thing x) m = where-length _ _
@@ -73,6 +75,7 @@ effect-words (write-access e x) m = length-add _ _ _ _
 effect-words (make-task n l r) m = refl
 effect-words (make-object n l d c b) m = refl
 effect-words (move-to x c) m = refl
+effect-words {size} (bridge x) m = length-bridged (rowSizeOf size) (numbersOf size) (feeder m x) (fedBy m x) (m .words)
 effect-words {size} (clear x) m = length-clear (rowSizeOf size) (numbersOf size) tables x (m .words)
 effect-words (mark-outside e) m = ap length (where-words _ _)
 effect-words (mark-thing x) m = ap length (where-words _ _)
@@ -88,17 +91,18 @@ effects-long (e ∷ es) l = effects-long es (effect-long e l)
 -- ---- flows and accesses: table 0, 1 and 2
 
 -- column v of row u of table i, from what it was
-abbrev pub cellAfter : ℕ → ℕ → ℕ → Effect → Bool → Bool
-cellAfter i u v (flow x y) b = cond (eqb i 0) (b || (eqb u x && eqb v y)) b
-cellAfter i u v (flow-if c x y) b = cond (eqb i 0) (b || (c && (eqb u x && eqb v y))) b
-cellAfter i u v (read-access e x) b = cond (eqb i 1) (b || (eqb u e && eqb v x)) b
-cellAfter i u v (write-access e x) b = cond (eqb i 2) (b || (eqb u e && eqb v x)) b
-cellAfter i u v (make-task n l r) b = b
-cellAfter i u v (make-object n l d c w) b = b
-cellAfter i u v (move-to x c) b = b
-cellAfter i u v (clear x) b = b && not (eqb u x) && not (eqb v x)
-cellAfter i u v (mark-outside e) b = b
-cellAfter i u v (mark-thing x) b = b
+abbrev pub cellAfter : {size : Size} → MemoryOf size → ℕ → ℕ → ℕ → Effect → Bool → Bool
+cellAfter m i u v (flow x y) b = cond (eqb i 0) (b || (eqb u x && eqb v y)) b
+cellAfter m i u v (flow-if c x y) b = cond (eqb i 0) (b || (c && (eqb u x && eqb v y))) b
+cellAfter m i u v (read-access e x) b = cond (eqb i 1) (b || (eqb u e && eqb v x)) b
+cellAfter m i u v (write-access e x) b = cond (eqb i 2) (b || (eqb u e && eqb v x)) b
+cellAfter m i u v (make-task n l r) b = b
+cellAfter m i u v (make-object n l d c w) b = b
+cellAfter m i u v (move-to x c) b = b
+cellAfter m i u v (bridge x) b = cond (eqb i 0) (b || (feeder m x u && (fedBy m x v && not (eqb v u)))) b
+cellAfter m i u v (clear x) b = b && not (eqb u x) && not (eqb v x)
+cellAfter m i u v (mark-outside e) b = b
+cellAfter m i u v (mark-thing x) b = b
 
 same-row : (size : Size) (i j u x : ℕ) → u < numbersOf size → x < numbersOf size → eqb (rowOf size i u) (rowOf size j x) ≡ (eqb i j && eqb u x)
 same-row size i j u x lu lx = both-ways _ _ there back
@@ -134,7 +138,7 @@ flow-add {size} m i x y u v l f lu lv =
     ∙ table-add size (m .words) i 0 x y u v (l .words-long) (omega arith) (f .0) (f .1) lu lv
 
 table-after : {size : Size} (i : ℕ) (e : Effect) (m : MemoryOf size) → i < tables → Long m → Fits size e → (u v : ℕ) → u < numbersOf size → v < numbersOf size
-    → cell (rowSizeOf size) (effect e m .words) (rowOf size i u) v ≡ cellAfter i u v e (cell (rowSizeOf size) (m .words) (rowOf size i u) v)
+    → cell (rowSizeOf size) (effect e m .words) (rowOf size i u) v ≡ cellAfter m i u v e (cell (rowSizeOf size) (m .words) (rowOf size i u) v)
 unfolding effect
 table-after i (flow x y) m li l f u v lu lv = flow-add m i x y u v l f lu lv
 table-after i (flow-if true x y) m li l f u v lu lv = flow-add m i x y u v l f lu lv
@@ -148,20 +152,30 @@ table-after {size} i (write-access e x) m li l f u v lu lv = table-add size (m .
 table-after i (make-task n l r) m li h f u v lu lv = refl
 table-after i (make-object n l d c b) m li h f u v lu lv = refl
 table-after i (move-to x c) m li l f u v lu lv = refl
+table-after {size} i (bridge x) m li l f u v lu lv =
+    cell-bridged (rowSizeOf size) (numbersOf size) (feeder m x) (fedBy m x) (m .words) (rowOf size i u) v (rw (l .words-long) (omega arith)) lv ∙ go i
+  where
+    pair : ℕ → Bool
+    pair p = feeder m x p && (fedBy m x v && not (eqb v p))
+
+    go : (i : ℕ) → (cell (rowSizeOf size) (m .words) (rowOf size i u) v || (ltb (rowOf size i u) (numbersOf size) && pair (rowOf size i u)))
+        ≡ cond (eqb i 0) (cell (rowSizeOf size) (m .words) (rowOf size i u) v || pair u) (cell (rowSizeOf size) (m .words) (rowOf size i u) v)
+    go zero = rw (first-row size u, lt-ltb u (numbersOf size) lu)
+    go (suc i) = rw (ne-eqb (suc i) 0 (omega arith), le-ltb (rowOf size (suc i) u) (numbersOf size) (omega arith)) (or-false (cell (rowSizeOf size) (m .words) (rowOf size (suc i) u) v))
 table-after {size} i (clear x) m li l f u v lu lv = cell-clear (rowSizeOf size) (numbersOf size) tables x (m .words) i u v li lu lv f f
 table-after i (mark-outside e) m li l f u v lu lv = rw where-words
 table-after i (mark-thing x) m li l f u v lu lv = rw where-words
 
 module _ {size : Size} (u v : ℕ) (lu : u < numbersOf size) (lv : v < numbersOf size) where
-  pub flow-after : (e : Effect) (m : MemoryOf size) → Long m → Fits size e → hasFlow (effect e m) u v ≡ cellAfter 0 u v e (hasFlow m u v)
+  pub flow-after : (e : Effect) (m : MemoryOf size) → Long m → Fits size e → hasFlow (effect e m) u v ≡ cellAfter m 0 u v e (hasFlow m u v)
   unfolding hasFlow
   flow-after e m l f = rw (first-row size u) at (table-after 0 e m (omega arith) l f u v lu lv)
 
-  pub read-after : (e : Effect) (m : MemoryOf size) → Long m → Fits size e → hasRead (effect e m) u v ≡ cellAfter 1 u v e (hasRead m u v)
+  pub read-after : (e : Effect) (m : MemoryOf size) → Long m → Fits size e → hasRead (effect e m) u v ≡ cellAfter m 1 u v e (hasRead m u v)
   unfolding hasRead
   read-after e m l f = table-after 1 e m (omega arith) l f u v lu lv
 
-  pub write-after : (e : Effect) (m : MemoryOf size) → Long m → Fits size e → hasWrite (effect e m) u v ≡ cellAfter 2 u v e (hasWrite m u v)
+  pub write-after : (e : Effect) (m : MemoryOf size) → Long m → Fits size e → hasWrite (effect e m) u v ≡ cellAfter m 2 u v e (hasWrite m u v)
   unfolding hasWrite
   write-after e m l f = table-after 2 e m (omega arith) l f u v lu lv
 
@@ -176,6 +190,7 @@ byteAfter size t x f (write-access e y) b = b
 byteAfter size t x f (make-task n l r) b = cond (eqb x n) (t (getD (1 ∷ l ∷ r ∷ 0 ∷ 0 ∷ 0 ∷ 0 ∷ 0 ∷ []) f 0)) b
 byteAfter size t x f (make-object n l d p w) b = cond (eqb x n) (t (getD (2 ∷ l ∷ 0 ∷ d ∷ containerByte p size ∷ one w ∷ spareByte p size ∷ 0 ∷ []) f 0)) b
 byteAfter size t x f (move-to y c) b = cond (eqb f 4 && eqb x y) (t c) b
+byteAfter size t x f (bridge y) b = b
 byteAfter size t x f (clear y) b = cond (eqb x y) (t 0) b
 byteAfter size t x f (mark-outside e) b = b
 byteAfter size t x f (mark-thing y) b = b
@@ -189,6 +204,7 @@ Apart f (write-access e y) = Unit {0}
 Apart f (make-task n l r) = Unit {0}
 Apart f (make-object n l d c w) = Unit {0}
 Apart f (move-to y c) = Unit {0}
+Apart f (bridge y) = Unit {0}
 Apart f (clear y) = Unit {0}
 Apart f (mark-outside e) = f ≡ 5 → ⊥
 Apart f (mark-thing y) = f ≡ 5 → ⊥
@@ -240,6 +256,7 @@ byte-after t x f lf (write-access e y) m l h a = refl
 byte-after {size} t x f lf (make-task n k r) m l h a = record-test size t (m .bytes) n _ _ _ _ _ _ _ x f (l .bytes-long) h lf
 byte-after {size} t x f lf (make-object n k d p w) m l h a = record-test size t (m .bytes) n _ _ _ _ _ _ _ x f (l .bytes-long) h lf
 byte-after {size} t x f lf (move-to y c) m l h a = ap t (field-set size (m .bytes) y 4 c x f (l .bytes-long) h (omega arith) lf) ∙ cond-ap t (eqb f 4 && eqb x y) c (field (m .bytes) x f)
+byte-after t x f lf (bridge y) m l h a = refl
 byte-after {size} t x f lf (clear y) m l h a =
     record-test size t (m .bytes) y _ _ _ _ _ _ _ x f (l .bytes-long) h lf
     ∙ ap (λ (b : ℕ). cond (eqb x y) (t b) (t (field (m .bytes) x f))) (getD-replicate 8 f 0 0 lf)
@@ -255,6 +272,7 @@ apart f n (write-access e y) = tt
 apart f n (make-task k l r) = tt
 apart f n (make-object k l d c w) = tt
 apart f n (move-to y c) = tt
+apart f n (bridge y) = tt
 apart f n (clear y) = tt
 apart f n (mark-outside e) = n
 apart f n (mark-thing y) = n
@@ -268,6 +286,7 @@ markedAfter x (write-access e y) b = b
 markedAfter x (make-task n l r) b = cond (eqb x n) false b
 markedAfter x (make-object n l d c w) b = cond (eqb x n) w b
 markedAfter x (move-to y c) b = b
+markedAfter x (bridge y) b = b
 markedAfter x (clear y) b = cond (eqb x y) false b
 markedAfter x (mark-outside e) b = b
 markedAfter x (mark-thing y) b = b
@@ -281,6 +300,7 @@ same-marked size x (make-task n l r) b = refl
 same-marked size x (make-object n l d c true) b = refl
 same-marked size x (make-object n l d c false) b = refl
 same-marked size x (move-to y c) b = refl
+same-marked size x (bridge y) b = refl
 same-marked size x (clear y) b = refl
 same-marked size x (mark-outside e) b = refl
 same-marked size x (mark-thing y) b = refl

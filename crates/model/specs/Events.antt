@@ -1,4 +1,4 @@
--- The events of document 01, the move as document 02 amends it. Each is a table: its tests in the order of the rows of the verdicts, what only an honest driver enforces, and its effects.
+-- The events of document 01, move and delete as document 02 amends them. Each is a table: its tests in the order of the rows of the verdicts, what only an honest driver enforces, and its effects.
 -- Assumes nothing.
 use mathlib.Core.Bool.{Bool, true, not, cond, _&&_, _||_}
 use mathlib.Core.List.{List, [], _∷_}
@@ -9,10 +9,10 @@ use Rattle.levels.specs.declared.Order.{Order}
 use Rattle.levels.specs.Order.{atOrBelow, inOrder}
 use Rattle.rows.specs.Size.{Size, present, numbersOf}
 use Rattle.records.specs.Records.{Place, root, within}
-use Rattle.model.specs.Verdicts.{granted, slipped, isDone, row-number, row-taken, row-driver, row-place, row-held, row-scale, row-path, row-rule, row-filled, row-still}
+use Rattle.model.specs.Verdicts.{granted, slipped, isDone, row-number, row-taken, row-driver, row-place, row-held, row-scale, row-path, row-rule, row-filled, row-still, row-feeding}
 use Rattle.model.specs.State.{MemoryOf, memory, inUse, task, object, levelOf, readLevelOf, driverOf, liesIn, marked, hasFlow, hasRead, hasWrite}
 use Rattle.model.specs.Inside.{inside}
-use Rattle.model.specs.Effects.{Effect, flow, flow-if, read-access, write-access, make-task, make-object, move-to, clear, mark-outside, mark-thing, effects}
+use Rattle.model.specs.Effects.{Effect, flow, flow-if, read-access, write-access, make-task, make-object, move-to, bridge, clear, mark-outside, mark-thing, fedBy, effects}
 
 -- a row of the table of verdicts, and what has to hold for it not to apply
 pub data Test : Type 0 where
@@ -54,6 +54,12 @@ verdictOf e = firstFailing (e .tests) (unless (e .honest) slipped granted)
 -- granted or slipped, the effects are recorded; a refusal keeps bytes and words
 unfoldable pub outcome : {size : Size} → MemoryOf size → Event → OutcomeOf size
 outcome m e = record { verdict = verdictOf e; rounds = 0; memory = cond (isDone (verdictOf e)) (effects (e .effects) m) m }
+
+-- ---- row 16, of document 02
+
+-- x is marked and feeds an unmarked thing; `fedBy` leaves x itself out
+unfoldable pub feedsUnmarked : {size : Size} → MemoryOf size → ℕ → Bool
+feedsUnmarked {size} m x = marked m x && anyB (numbersOf size) (λ y. fedBy m x y && not (marked m y))
 
 -- ---- the events, under an order and on a memory of either size
 module _ {size : Size} (o : Order) (m : MemoryOf size) where
@@ -173,7 +179,7 @@ module _ {size : Size} (o : Order) (m : MemoryOf size) where
         effects = move-to x t ∷ flow-if (marked m d) e x ∷ flow-if (marked m d) e d ∷ [];
       }
 
-  -- the object x, in its container k
+  -- the object x, in its container k; what fed it, and its driver, goes on to feed what it fed (document 02)
   unfoldable pub delete : ℕ → ℕ → ℕ → ℕ → Event
   delete e d x k =
       record {
@@ -184,9 +190,10 @@ module _ {size : Size} (o : Order) (m : MemoryOf size) where
             ∷ need row-held (hasWrite m e k && hasWrite m d k)
             ∷ need row-rule (L x ⊑ L e && L x ⊑ L d)
             ∷ need row-filled (not (anyB (numbersOf size) (λ y. object m y && liesIn m y x)))
+            ∷ need row-feeding (not (feedsUnmarked m x))
             ∷ [];
         honest = true;
-        effects = clear x ∷ flow-if (marked m d) e d ∷ [];
+        effects = bridge x ∷ clear x ∷ flow-if (marked m d) e d ∷ [];
       }
 
   -- the task a calls the task b

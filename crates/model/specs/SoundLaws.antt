@@ -24,7 +24,7 @@ use Rattle.model.specs.Verdicts.{isDone}
 use Rattle.model.specs.State.{MemoryOf, lengthsFit, inUse, task, object, driverOf, liesIn}
 use Rattle.model.specs.StateLaws.{object-used}
 use Rattle.model.specs.Inside.{inside}
-use Rattle.model.specs.Effects.{Effect, flow, flow-if, read-access, write-access, make-task, make-object, move-to, clear, mark-outside, mark-thing, objectOf, markWhere, effect, effects}
+use Rattle.model.specs.Effects.{Effect, flow, flow-if, read-access, write-access, make-task, make-object, move-to, bridge, clear, mark-outside, mark-thing, objectOf, markWhere, effect, effects}
 use Rattle.model.specs.Events.{Event, outcome, read, write, execute, create, createRoot, move, delete, callTask, invoke, pass, post, find, mark, step}
 use Rattle.model.specs.Spread.{reached, driven, round, spread}
 use Rattle.model.specs.Monitor.{fitted, started, perform}
@@ -48,6 +48,7 @@ module _ {size : Size} where
   Allowed o m (make-task n l r) = (n < numbersOf size) × (inUse m n ≡ false) × (inOrder o l ≡ true) × (inOrder o r ≡ true)
   Allowed o m (make-object n l d p b) = (n < numbersOf size) × (inUse m n ≡ false) × (inOrder o l ≡ true) × (task m d ≡ true) × PlaceFits (m .bytes) p
   Allowed o m (move-to x c) = (object m x ≡ true) × ((f : ℕ) × (liesIn m x f ≡ true)) × (object m c ≡ true) × (c ≡ x → ⊥) × (inside m c x ≡ false)
+  Allowed o m (bridge x) = Unit {0}
   Allowed o m (clear x) = (object m x ≡ true) × ((y : ℕ) → y < numbersOf size → object m y ≡ true → liesIn m y x ≡ true → ⊥)
   Allowed o m (mark-outside e) = task m e ≡ true
   Allowed o m (mark-thing x) = inUse m x ≡ true
@@ -76,6 +77,7 @@ module _ {size : Size} where
       go true = inr refl
       go false = inl refl
   effect-sound o m (move-to x c) h a = object-moved size o (m .bytes) h x (a .1 .0) c (eqb-true _ _ (a .0)) (a .1 .1) (eqb-true _ _ (a .2)) (a .3)
+  effect-sound o m (bridge x) h a = h
   effect-sound o m (clear x) h a =
       object-cleared size o (m .bytes) h x (eqb-true _ _ (a .0)) (λ y k. a .1 y (in-use size o (m .bytes) h y (omega arith)) (eq-eqb _ _ k))
   effect-sound o m (mark-outside e) h a =
@@ -120,7 +122,7 @@ event-did o m e r allowed h =
     rw (d .leaves) (acts (d .lengths, d .sound-bytes) (e .effects) (allowed (d .tests)))
 
 pub call-did : (size : Size) (o : Order) (m : MemoryOf size) (c : Call) → isDone (perform o m c .verdict) ≡ true → Did o m (perform o m c .memory)
-unfolding object read write execute create createRoot move delete callTask invoke pass post find mark step
+unfolding effect object read write execute create createRoot move delete callTask invoke pass post find mark step
 call-did size o m Start h = let d = start-done o m h in rw (d .2) (starts (d .1))
 call-did size o m (Read e d x) h = event-did o m (read o m e d x) refl (λ t. (tt, (tt, (tt, (tt, tt))))) h
 call-did size o m (Write e d x) h = event-did o m (write o m e d x) refl (λ t. (tt, (tt, (tt, tt)))) h
@@ -150,7 +152,7 @@ call-did size o m (Delete e d x k) h =
     event-did o m (delete o m e d x k) refl
     (λ p.
     let a = simp and-eq-true-iff at (p .0) in
-    ((a .0 .1, λ y l i c. true≢false (sym (any-i (numbersOf size) (λ y. object m y && liesIn m y x) y l (and-i i c)) ∙ not-true _ (p .1 .1 .1 .1 .1 .0))), (tt, tt))) h
+    (tt, ((a .0 .1, λ y l i c. true≢false (sym (any-i (numbersOf size) (λ y. object m y && liesIn m y x) y l (and-i i c)) ∙ not-true _ (p .1 .1 .1 .1 .1 .0))), (tt, tt)))) h
 call-did size o m (CallTask a b) h = event-did o m (callTask o m a b) refl (λ t. (tt, (tt, tt))) h
 call-did size o m (Invoke a b) h = event-did o m (invoke o m a b) refl (λ t. (tt, (tt, tt))) h
 call-did size o m (Pass z x y) h = event-did o m (pass o m z x y) refl (λ t. (tt, tt)) h

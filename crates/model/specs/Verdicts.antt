@@ -54,6 +54,10 @@ row-form = 14
 abbrev pub row-deep : ℕ
 row-deep = 15
 
+-- "feeding": the object is marked and feeds an unmarked thing other than itself; this row stands after row 12
+abbrev pub row-feeding : ℕ
+row-feeding = 16
+
 -- granted or slipped: the effects are recorded
 abbrev pub isDone : ℕ → Bool
 isDone v = leb v slipped

@@ -97,3 +97,5 @@ pub const STILL: u8 = 13;
 pub const FORM: u8 = 14;
 
 pub const DEEP: u8 = 15;
+
+pub const FEEDING: u8 = 16;

@@ -14,14 +14,14 @@ use lib.ListN.{length, getD, set, length-set, replicate, List·getD-eq-default}
 use lib.Pow.{pow-lt}
 use lib.Seq.{getD-set-same, getD-set-other, set-out}
 use borrow.Author.Tests.{eqb-true, eqb-false, eq-eqb, ltb-true, ltb-false, lt-ltb}
-use Rattle.bits.specs.Bit.{bit}
-use Rattle.bits.specs.BitLaws.{bit-and, bit-or, bit-pow, bit-not, bit-zero}
+use Rattle.bits.specs.Bit.{bit, wordOf}
+use Rattle.bits.specs.BitLaws.{bit-and, bit-or, bit-pow, bit-not, bit-zero, bit-word}
 use Rattle.bits.specs.All.{anyB, upTo}
-use Rattle.bits.specs.AllLaws.{either, both-ways, and-l, and-r, and-i, and-true, or-false, any-i, any-at}
+use Rattle.bits.specs.AllLaws.{either, both-ways, or-l, and-l, and-r, and-i, and-true, or-false, any-i, any-at}
 use Rattle.bits.specs.LoopLaws.{up-keeps}
 use Rattle.bits.specs.WordsLaws.{getD-zeros}
 use Rattle.rows.specs.Size.{Size, small, large, numbersOf}
-use Rattle.rows.specs.Rows.{place, cell, addCell, cutCell, clearRow, clearColumn, clearThing}
+use Rattle.rows.specs.Rows.{place, cell, addCell, cutCell, clearRow, clearColumn, clearThing, joinRow, bridged}
 
 -- ---- sizes
 
@@ -242,3 +242,122 @@ cell-past n ws x y h = ap (λ (w : ℕ). bit w (y % 64)) (List·getD-eq-default 
 pub cell-zeros : (n m x y : ℕ) → cell n (replicate m 0) x y ≡ false
 unfolding cell
 cell-zeros n m x y = ap (λ (w : ℕ). bit w (y % 64)) (getD-zeros m (place n x y)) ∙ bit-zero (y % 64)
+
+-- ---- loops that set
+
+or-or : (h a b : Bool) → ((h || a) || b) ≡ (h || (a || b))
+or-or true a b = refl
+or-or false a b = refl
+
+-- a loop whose step i sets where p i holds, on what the loop keeps, sets where some p i does
+up-sets : {A : Type 0} (f : ℕ → A → A) (I : A → Type 0) (has : A → Bool) (p : ℕ → Bool) (n : ℕ) → ((i : ℕ) (s : A) → I s → I (f i s))
+    → ((i : ℕ) (s : A) → i < n → I s → has (f i s) ≡ (has s || p i)) → (s : A) → I s → has (upTo f n s) ≡ (has s || anyB n p)
+unfolding upTo anyB
+up-sets f I has p zero k h s q = sym (or-false (has s))
+up-sets f I has p (suc n) k h s q =
+    h n (upTo f n s) (le-refl (suc n)) (up-keeps f I n (λ i t l. k i t) s q)
+    ∙ ap (λ (b : Bool). b || p n) (up-sets f I has p n k (λ i t l. h i t (le-trans l (le-suc n))) s q)
+    ∙ or-or (has s) (anyB n p) (p n)
+
+pub length-join : (n x : ℕ) (t : ℕ → Bool) (ws : List ℕ) → length (joinRow n x t ws) ≡ length ws
+unfolding joinRow
+length-join n x t ws = up-length _ n (λ i v. length-set v _ _) ws
+
+pub cell-join : (n x : ℕ) (t : ℕ → Bool) (ws : List ℕ) (x′ y : ℕ) → n * x + n ≤ length ws → y < 64 * n
+    → cell n (joinRow n x t ws) x′ y ≡ (cell n ws x′ y || (eqb x′ x && t y))
+unfolding joinRow cell
+cell-join n x t ws x′ y room h =
+    up-sets _ (λ v. length v ≡ length ws) (λ v. cell n v x′ y) word n (λ i v e. length-set v _ _ ∙ e) one ws refl
+    ∙ ap (λ (b : Bool). cell n ws x′ y || b) (both-ways (anyB n word) (eqb x′ x && t y) there back)
+  where
+    word : ℕ → Bool
+    word i = eqb (place n x′ y) (n * x + i) && t (64 * i + y % 64)
+
+    one : (i : ℕ) (v : List ℕ) → i < n → length v ≡ length ws
+        → cell n (set v (n * x + i) (bitOr (getD v (n * x + i) 0) (wordOf (λ j. t (64 * i + j))))) x′ y ≡ (cell n v x′ y || word i)
+    one i v l e =
+        cell-change n (λ w. bitOr w (wordOf (λ j. t (64 * i + j)))) v (n * x + i) x′ y (inl (omega arith))
+        ∙ ap (λ (b : Bool). cond (eqb (place n x′ y) (n * x + i)) b (cell n v x′ y))
+        (bit-or _ _ _ ∙ ap (λ (b : Bool). cell n v x′ y || b) (bit-word (λ j. t (64 * i + j)) (y % 64) (low y)))
+        ∙ cond-or (eqb (place n x′ y) (n * x + i)) (cell n v x′ y) (t (64 * i + y % 64))
+
+    there : anyB n word ≡ true → (eqb x′ x && t y) ≡ true
+    there e =
+        let a = any-at n word e in
+        let i : ℕ = a .0 in
+        let d = same-place n (a .1) (omega arith) (eqb-true _ _ (and-l (eqb (place n x′ y) (n * x + a .0)) (t (64 * a .0 + y % 64)) (a .2))) in
+        let q : y / 64 ≡ i = d .1 in
+        and-i (eq-eqb x′ x (d .0)) (ap t (omega arith) ∙ and-r (eqb (place n x′ y) (n * x + a .0)) (t (64 * a .0 + y % 64)) (a .2))
+
+    back : (eqb x′ x && t y) ≡ true → anyB n word ≡ true
+    back e =
+        any-i n word (y / 64) (omega arith)
+        (and-i (eq-eqb _ _ (ap (λ (v : ℕ). n * v + y / 64) (eqb-true x′ x (and-l (eqb x′ x) (t y) e)))) (ap t (omega arith) ∙ and-r (eqb x′ x) (t y) e))
+
+pub length-bridged : (n r : ℕ) (from to : ℕ → Bool) (ws : List ℕ) → length (bridged n r from to ws) ≡ length ws
+unfolding bridged
+length-bridged n r from to ws = up-length _ r (λ x v. go x v (from x)) ws
+  where
+    go : (x : ℕ) (v : List ℕ) (b : Bool) → length (cond b (joinRow n x (λ y. to y && not (eqb y x)) v) v) ≡ length v
+    go x v true = length-join n x _ v
+    go x v false = refl
+
+-- row x and column y after bridging: what was there, and each column that passes in each row that does
+pub cell-bridged : (n r : ℕ) (from to : ℕ → Bool) (ws : List ℕ) (x y : ℕ) → n * r ≤ length ws → y < 64 * n
+    → cell n (bridged n r from to ws) x y ≡ (cell n ws x y || (ltb x r && (from x && (to y && not (eqb y x)))))
+unfolding bridged
+cell-bridged n r from to ws x y room h =
+    up-sets _ (λ v. length v ≡ length ws) (λ v. cell n v x y) row r (λ z v e. keeps z v (from z) ∙ e) (λ z v l e. one z v (from z) l e) ws refl
+    ∙ ap (λ (b : Bool). cell n ws x y || b) (both-ways (anyB r row) (ltb x r && (from x && (to y && not (eqb y x)))) there back)
+  where
+    row : ℕ → Bool
+    row z = from z && (eqb x z && (to y && not (eqb y z)))
+
+    keeps : (z : ℕ) (v : List ℕ) (b : Bool) → length (cond b (joinRow n z (λ y. to y && not (eqb y z)) v) v) ≡ length v
+    keeps z v true = length-join n z _ v
+    keeps z v false = refl
+
+    one : (z : ℕ) (v : List ℕ) (b : Bool) → z < r → length v ≡ length ws
+        → cell n (cond b (joinRow n z (λ y. to y && not (eqb y z)) v) v) x y ≡ (cell n v x y || (b && (eqb x z && (to y && not (eqb y z)))))
+    one z v true l e = cell-join n z (λ y. to y && not (eqb y z)) v x y (omega (arith, mul-le-mul-left n l)) h
+    one z v false l e = sym (or-false (cell n v x y))
+
+    there : anyB r row ≡ true → (ltb x r && (from x && (to y && not (eqb y x)))) ≡ true
+    there e =
+        let a = any-at r row e in
+        let f = and-l (from (a .0)) (eqb x (a .0) && (to y && not (eqb y (a .0)))) (a .2) in
+        let g = and-r (from (a .0)) (eqb x (a .0) && (to y && not (eqb y (a .0)))) (a .2) in
+        let d : x ≡ a .0 = eqb-true x (a .0) (and-l (eqb x (a .0)) (to y && not (eqb y (a .0))) g) in
+        and-i (lt-ltb x r (rw d (a .1))) (and-i (ap from d ∙ f) (rw d (and-r (eqb x (a .0)) (to y && not (eqb y (a .0))) g)))
+
+    back : (ltb x r && (from x && (to y && not (eqb y x)))) ≡ true → anyB r row ≡ true
+    back e =
+        let g = and-r (ltb x r) (from x && (to y && not (eqb y x))) e in
+        any-i r row x (ltb-true x r (and-l (ltb x r) (from x && (to y && not (eqb y x))) e))
+        (and-i (and-l (from x) (to y && not (eqb y x)) g) (and-i (eq-eqb x x refl) (and-r (from x) (to y && not (eqb y x)) g)))
+
+-- ---- what is set stays so, wherever a word is joined: past the end too
+
+or-kept : (n : ℕ) (ws : List ℕ) (p k x y : ℕ) → cell n ws x y ≡ true → cell n (set ws p (bitOr (getD ws p 0) k)) x y ≡ true
+unfolding cell
+or-kept n ws p k x y h = go (either (ltb p (length ws)))
+  where
+    go : (ltb p (length ws) ≡ true) ⊎ (ltb p (length ws) ≡ false) → cell n (set ws p (bitOr (getD ws p 0) k)) x y ≡ true
+    go (inl l) =
+        cell-change n (λ w. bitOr w k) ws p x y (inl (ltb-true _ _ l))
+        ∙ ap (λ (b : Bool). cond (eqb (place n x y) p) b (cell n ws x y)) (bit-or _ _ _)
+        ∙ cond-or (eqb (place n x y) p) (cell n ws x y) (bit k (y % 64))
+        ∙ or-l (cell n ws x y) _ h
+    go (inr l) = rw (set-out ws p (bitOr (getD ws p 0) k) (ltb-false _ _ l)) h
+
+pub add-kept : (n : ℕ) (ws : List ℕ) (x y x′ y′ : ℕ) → cell n ws x′ y′ ≡ true → cell n (addCell n ws x y) x′ y′ ≡ true
+unfolding addCell
+add-kept n ws x y x′ y′ h = or-kept n ws (place n x y) (2 ^ (y % 64)) x′ y′ h
+
+pub bridged-kept : (n r : ℕ) (from to : ℕ → Bool) (ws : List ℕ) (x y : ℕ) → cell n ws x y ≡ true → cell n (bridged n r from to ws) x y ≡ true
+unfolding bridged joinRow
+bridged-kept n r from to ws x y h = up-keeps _ (λ v. cell n v x y ≡ true) r (λ z v l e. go z v (from z) e) ws h
+  where
+    go : (z : ℕ) (v : List ℕ) (b : Bool) → cell n v x y ≡ true → cell n (cond b (joinRow n z (λ y. to y && not (eqb y z)) v) v) x y ≡ true
+    go z v true e = up-keeps _ (λ u. cell n u x y ≡ true) n (λ i u l d. or-kept n u (n * z + i) _ x y d) v e
+    go z v false e = e

@@ -5,7 +5,7 @@ use borrow.Author.Needs.{needs}
 use borrow.Author.Tests.{eq-eqb, ne-eqb}
 use Rattle.rows.specs.Size.{rowSize}
 use Rattle.records.specs.Records.{field, isObject}
-use Rattle.marking.specs.Sets.{last}
+use Rattle.sets.specs.Sets.{last}
 use Rattle.marking.specs.Rounds.{ownRow}
 use Rattle.marking.proofs.rounds.own_row.Statement.{statement}
 use Rattle.marking.proofs.rounds.own_row.Tie as tie

@@ -10,11 +10,11 @@ use borrow.Author.Needs.{needs}
 use Rattle.bits.specs.All.{anyB}
 use Rattle.rows.specs.Size.{rowSize, numbers}
 use Rattle.rows.specs.Rows.{cell}
-use Rattle.marking.specs.Sets.{inWord}
+use Rattle.sets.specs.Sets.{inWord}
 use Rattle.marking.specs.Rounds.{OwnedRows, puts}
 use Rattle.marking.specs.OwnedLaws.{own-cell}
-use Rattle.marking.specs.SetLaws.{word-within}
-use Rattle.marking.specs.WalkLaws.{some-next, some-end, rest-less}
+use Rattle.sets.specs.SetLaws.{word-within}
+use Rattle.sets.specs.WalkLaws.{some-next, some-end, rest-less}
 use Rattle.marking.proofs.rounds.own_word.Statement.{statement}
 use Rattle.marking.proofs.rounds.own_word.Tie as tie
 

@@ -1,0 +1,4 @@
+pub mod Sets
+pub mod WordLaws
+pub mod WalkLaws
+pub mod SetLaws
