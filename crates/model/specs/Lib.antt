@@ -15,6 +15,7 @@ pub mod MarkLaws
 pub mod SpreadLaws
 pub mod Trials
 pub mod MoveTrials
+pub mod DeleteTrials
 pub mod TrialsProved
 pub mod LoadTrial
 pub mod LoadTrialProved

@@ -9,19 +9,20 @@ use native.Mathlib.Omega.{arith}
 use lib.Dec.{eqb, ltb}
 use lib.ListN.{getD, length, replicate, length-replicate}
 use borrow.Author.Tests.{eqb-true, ltb-true}
-use Rattle.bits.specs.All.{allB}
+use Rattle.bits.specs.All.{allB, anyB, upTo}
 use Rattle.bits.specs.AllLaws.{and-l, and-r}
-use Rattle.bits.specs.Bit.{bit}
-use Rattle.rows.specs.Rows.{cell, addCell}
+use Rattle.bits.specs.Bit.{bit, wordOf}
+use Rattle.rows.specs.Rows.{cell, addCell, cutCell, clearRow, clearColumn, clearThing, joinRow, bridged}
 use Rattle.rows.specs.RowLaws.{cell-add, cell-zeros, length-add}
 use Rattle.rows.specs.Size.{rowSize, numbers}
 use Rattle.levels.specs.Order.{atOrBelow, orderPasses, countFits, reflexive, transitive, antisymmetric, belowTop, clearOutside}
 use Rattle.records.specs.Records.{field, setField, setRecord, isTask, isObject, liesWithin, freeRecord, taskRecord, objectRecordOf, soundRecordOf, coreRecord, soundOf}
 use Rattle.model.specs.State.{lengthsFit, inUse, task, object, marked, hasFlow, hasWrite}
-use Rattle.model.specs.Effects.{effect, effects}
-use Rattle.model.specs.Events.{Outcome, unless, firstFailing, verdictOf, outcome, read, move, invoke}
+use Rattle.model.specs.Effects.{objectOf, markOne, markWhere, feeder, fedBy, effect, effects}
+use Rattle.model.specs.Events.{Outcome, unless, firstFailing, verdictOf, outcome, feedsUnmarked, read, move, delete, invoke, mark, fed, step}
 use Rattle.model.specs.Monitor.{perform, fitted, refusedUnless, refusal, start, started}
 use Rattle.model.specs.MoveTrials.{holding, drawers, moves}
+use Rattle.model.specs.DeleteTrials.{recording, scratch, deletes, deletions, stepOnto, NotCold, NotInvented}
 use Rattle.model.specs.Inside.{walk, inside}
 use Rattle.model.specs.Trials.{Pair, Trial, Holds, AllHold, listed, orderOf, Q, fresh, threeThings, twoTasks, trials}
 
@@ -108,3 +109,20 @@ moves-computed = refl
 
 pub moves-hold : AllHold moves
 moves-hold = all-hold moves moves-computed
+
+-- the amended delete's
+deletions-computed : allPass deletions ≡ true
+unfolding allPass passes agrees equalUpTo named flowWords deletions deletes allB anyB upTo scratch recording Q orderOf fresh started fitted refusedUnless refusal lengthsFit soundOf coreRecord soundRecordOf freeRecord taskRecord objectRecordOf isTask isObject field setField setRecord orderPasses countFits reflexive transitive antisymmetric belowTop clearOutside atOrBelow bit wordOf outcome verdictOf firstFailing unless feedsUnmarked delete liesWithin hasWrite hasFlow cell inUse task object marked objectOf feeder fedBy effects effect bridged joinRow clearThing clearColumn clearRow cutCell addCell
+deletions-computed = refl
+
+pub deletions-hold : AllHold deletions
+deletions-hold = all-hold deletions deletions-computed
+
+-- and those of the trail past a deleted file
+pub not-cold : NotCold
+unfolding stepOnto mark fed step markOne markWhere allB anyB upTo scratch recording Q orderOf fresh started fitted refusedUnless refusal lengthsFit soundOf coreRecord soundRecordOf freeRecord taskRecord objectRecordOf isTask isObject field setField setRecord orderPasses countFits reflexive transitive antisymmetric belowTop clearOutside atOrBelow bit wordOf outcome verdictOf firstFailing unless feedsUnmarked delete liesWithin hasWrite hasFlow cell inUse task object marked objectOf feeder fedBy effects effect bridged joinRow clearThing clearColumn clearRow cutCell addCell
+not-cold = refl
+
+pub not-invented : NotInvented
+unfolding stepOnto mark fed step markOne markWhere allB anyB upTo scratch recording Q orderOf fresh started fitted refusedUnless refusal lengthsFit soundOf coreRecord soundRecordOf freeRecord taskRecord objectRecordOf isTask isObject field setField setRecord orderPasses countFits reflexive transitive antisymmetric belowTop clearOutside atOrBelow bit wordOf outcome verdictOf firstFailing unless feedsUnmarked delete liesWithin hasWrite hasFlow cell inUse task object marked objectOf feeder fedBy effects effect bridged joinRow clearThing clearColumn clearRow cutCell addCell
+not-invented = refl
