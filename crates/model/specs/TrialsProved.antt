@@ -19,10 +19,10 @@ use Rattle.levels.specs.Order.{atOrBelow, orderPasses, countFits, reflexive, tr
 use Rattle.records.specs.Records.{field, setField, setRecord, isTask, isObject, liesWithin, freeRecord, taskRecord, objectRecordOf, soundRecordOf, coreRecord, soundOf}
 use Rattle.model.specs.State.{lengthsFit, inUse, task, object, marked, hasFlow, hasWrite}
 use Rattle.model.specs.Effects.{objectOf, markOne, markWhere, feeder, fedBy, effect, effects}
-use Rattle.model.specs.Events.{Outcome, unless, firstFailing, verdictOf, outcome, feedsUnmarked, read, move, delete, invoke, mark, fed, step}
+use Rattle.model.specs.Events.{Outcome, unless, firstFailing, verdictOf, outcome, feedsUnmarked, read, move, delete, invoke, fed}
 use Rattle.model.specs.Monitor.{perform, fitted, refusedUnless, refusal, start, started}
 use Rattle.model.specs.MoveTrials.{holding, drawers, moves}
-use Rattle.model.specs.DeleteTrials.{recording, scratch, deletes, deletions, stepOnto, NotCold, NotInvented}
+use Rattle.model.specs.DeleteTrials.{filed, recording, shelf, deleted, Bridges, Feeding, steps, TrailKept, scratch, deletions}
 use Rattle.model.specs.Inside.{walk, inside}
 use Rattle.model.specs.Trials.{Pair, Trial, Holds, AllHold, listed, orderOf, Q, fresh, threeThings, twoTasks, trials}
 
@@ -111,18 +111,21 @@ pub moves-hold : AllHold moves
 moves-hold = all-hold moves moves-computed
 
 -- the amended delete's
+pub bridges : Bridges
+unfolding deleted delete effects effect bridged joinRow clearThing clearColumn clearRow cutCell anyB upTo shelf filed recording field setField setRecord isObject wordOf bit hasFlow cell inUse object marked objectOf feeder fedBy addCell
+bridges = (refl, refl, refl, refl)
+
+pub feeding : Feeding
+unfolding feedsUnmarked anyB upTo shelf filed recording field setField setRecord isObject wordOf bit hasFlow cell inUse object marked objectOf feeder fedBy addCell
+feeding = (refl, refl, refl, refl)
+
+pub trail-kept : TrailKept
+unfolding steps fed markOne markWhere deleted delete effects effect bridged joinRow clearThing clearColumn clearRow cutCell anyB upTo shelf filed recording field setField setRecord isObject wordOf bit hasFlow cell inUse object marked objectOf feeder fedBy addCell
+trail-kept = (refl, refl)
+
 deletions-computed : allPass deletions ≡ true
-unfolding allPass passes agrees equalUpTo named flowWords deletions deletes allB anyB upTo scratch recording Q orderOf fresh started fitted refusedUnless refusal lengthsFit soundOf coreRecord soundRecordOf freeRecord taskRecord objectRecordOf isTask isObject field setField setRecord orderPasses countFits reflexive transitive antisymmetric belowTop clearOutside atOrBelow bit wordOf outcome verdictOf firstFailing unless feedsUnmarked delete liesWithin hasWrite hasFlow cell inUse task object marked objectOf feeder fedBy effects effect bridged joinRow clearThing clearColumn clearRow cutCell addCell
+unfolding allPass passes agrees equalUpTo named flowWords allB anyB upTo deletions scratch filed recording Q orderOf fresh started fitted refusedUnless refusal lengthsFit soundOf coreRecord soundRecordOf freeRecord taskRecord objectRecordOf isTask isObject field setField setRecord orderPasses countFits reflexive transitive antisymmetric belowTop clearOutside atOrBelow bit wordOf outcome verdictOf firstFailing unless feedsUnmarked delete liesWithin hasWrite hasFlow cell inUse task object marked objectOf feeder fedBy effects effect bridged joinRow clearThing clearColumn clearRow cutCell addCell
 deletions-computed = refl
 
 pub deletions-hold : AllHold deletions
 deletions-hold = all-hold deletions deletions-computed
-
--- and those of the trail past a deleted file
-pub not-cold : NotCold
-unfolding stepOnto mark fed step markOne markWhere allB anyB upTo scratch recording Q orderOf fresh started fitted refusedUnless refusal lengthsFit soundOf coreRecord soundRecordOf freeRecord taskRecord objectRecordOf isTask isObject field setField setRecord orderPasses countFits reflexive transitive antisymmetric belowTop clearOutside atOrBelow bit wordOf outcome verdictOf firstFailing unless feedsUnmarked delete liesWithin hasWrite hasFlow cell inUse task object marked objectOf feeder fedBy effects effect bridged joinRow clearThing clearColumn clearRow cutCell addCell
-not-cold = refl
-
-pub not-invented : NotInvented
-unfolding stepOnto mark fed step markOne markWhere allB anyB upTo scratch recording Q orderOf fresh started fitted refusedUnless refusal lengthsFit soundOf coreRecord soundRecordOf freeRecord taskRecord objectRecordOf isTask isObject field setField setRecord orderPasses countFits reflexive transitive antisymmetric belowTop clearOutside atOrBelow bit wordOf outcome verdictOf firstFailing unless feedsUnmarked delete liesWithin hasWrite hasFlow cell inUse task object marked objectOf feeder fedBy effects effect bridged joinRow clearThing clearColumn clearRow cutCell addCell
-not-invented = refl
