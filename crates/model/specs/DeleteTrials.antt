@@ -14,15 +14,16 @@ use Rattle.model.specs.Events.{feedsUnmarked, delete, fed}
 use Rattle.model.specs.declared.Call.the-variants.{Delete}
 use Rattle.model.specs.Trials.{Pair, _↣_, Trial, Q, fresh, trial}
 
--- ---- a file and what is about it
+-- ---- a file and what is about it, in states that no list leaves: an access without its flow, a marked driver's unmarked file
 
--- the core with marks k, tasks 1, 2 with marks j, and 5; the folder 3, and in it the scratch file 4 with marks i, both driven by the core; 6 is free
+-- the core, tasks 1, 2 and 5; the folder 3, and in it the scratch file 4, both driven by the core. The core is at level 3, all else at 0. The core, task 2
+-- and the file have the marks given; 6 is free
 unfoldable pub filed : ℕ → ℕ → ℕ → List ℕ → List ℕ
-filed k j i bs =
-    let core = setRecord bs 0 1 3 3 0 0 k 0 in
-    let tasks = setRecord (setRecord (setRecord core 1 1 0 0 0 0 0 0) 2 1 0 0 0 0 j 0) 5 1 0 0 0 0 0 0 in
+filed core two file bs =
+    let cored = setRecord bs 0 1 3 3 0 0 core 0 in
+    let tasks = setRecord (setRecord (setRecord cored 1 1 0 0 0 0 0 0) 2 1 0 0 0 0 two 0) 5 1 0 0 0 0 0 0 in
     let folder = setRecord tasks 3 2 0 0 0 (containerByte root present) 0 (spareByte root present) in
-    setRecord folder 4 2 0 0 0 (containerByte (within 3) present) i (spareByte (within 3) present)
+    setRecord folder 4 2 0 0 0 (containerByte (within 3) present) file (spareByte (within 3) present)
 
 unfoldable pub recording : List Pair → List ℕ → List ℕ
 recording [] ws = ws
@@ -31,25 +32,30 @@ recording (p ∷ ps) ws = addCell rowSize (recording ps ws) (flowRow (p .source)
 -- ---- what a deletion leaves of the flows, computed on no more bytes and words than these seven numbers need: those past the end read as zero
 
 unfoldable pub shelf : ℕ → ℕ → ℕ → List Pair → Memory
-shelf k j i flows = memory (filed k j i (replicate 56 0)) (recording flows (replicate 14 0))
+shelf core two file flows = memory (filed core two file (replicate 56 0)) (recording flows (replicate 14 0))
 
--- the effects of the deletion of the file by task 1
-unfoldable pub deleted : Memory → Memory
-deleted m = effects (delete Q m 1 0 4 3 .effects) m
+-- the effects of the deletion of the file by the task e
+unfoldable pub deletedBy : ℕ → Memory → Memory
+deletedBy e m = effects (delete Q m e 0 4 3 .effects) m
 
-abbrev pub Leaves : Memory → List Pair → Type 0
-Leaves m flows = deleted m .words ≡ recording flows (replicate 14 0)
+abbrev pub Leaves : ℕ → Memory → List Pair → Type 0
+Leaves e m flows = deletedBy e m .words ≡ recording flows (replicate 14 0)
 
 abbrev pub Bridges : Type 0
 Bridges =
     -- 1 fed the file and the file fed 2: 1 feeds 2, and so does the driver
-    Leaves (shelf 0 0 0 (1 ↣ 4 ∷ 4 ↣ 2 ∷ [])) (1 ↣ 2 ∷ 0 ↣ 2 ∷ [])
+    Leaves 1 (shelf 0 0 0 (1 ↣ 4 ∷ 4 ↣ 2 ∷ [])) (1 ↣ 2 ∷ 0 ↣ 2 ∷ [])
     -- what fed it and was fed by it does not feed itself; 5, which did not feed it, keeps its flow and gets none
-    × Leaves (shelf 0 0 0 (1 ↣ 4 ∷ 4 ↣ 1 ∷ 2 ↣ 4 ∷ 4 ↣ 2 ∷ 5 ↣ 1 ∷ [])) (1 ↣ 2 ∷ 2 ↣ 1 ∷ 0 ↣ 1 ∷ 0 ↣ 2 ∷ 5 ↣ 1 ∷ [])
-    -- a free number neither feeds nor is fed, and a flow from the file to itself leads nowhere
-    × Leaves (shelf 0 0 0 (4 ↣ 4 ∷ 6 ↣ 4 ∷ 4 ↣ 6 ∷ 4 ↣ 2 ∷ [])) (0 ↣ 2 ∷ [])
-    -- with the driver marked, the flow of document 01 besides
-    × Leaves (shelf 3 0 0 (1 ↣ 4 ∷ 4 ↣ 2 ∷ [])) (1 ↣ 2 ∷ 0 ↣ 2 ∷ 1 ↣ 0 ∷ [])
+    × Leaves 1 (shelf 0 0 0 (1 ↣ 4 ∷ 4 ↣ 1 ∷ 2 ↣ 4 ∷ 4 ↣ 2 ∷ 5 ↣ 1 ∷ [])) (1 ↣ 2 ∷ 2 ↣ 1 ∷ 0 ↣ 1 ∷ 0 ↣ 2 ∷ 5 ↣ 1 ∷ [])
+    -- nor does the driver; levels play no part
+    × Leaves 1 (shelf 0 0 0 (1 ↣ 4 ∷ 4 ↣ 0 ∷ 4 ↣ 2 ∷ [])) (1 ↣ 0 ∷ 1 ↣ 2 ∷ 0 ↣ 2 ∷ [])
+    -- a free number neither feeds nor is fed, but its other flows stay; a flow from the file to itself leads nowhere
+    × Leaves 1 (shelf 0 0 0 (4 ↣ 4 ∷ 6 ↣ 4 ∷ 4 ↣ 6 ∷ 4 ↣ 2 ∷ 6 ↣ 2 ∷ 2 ↣ 6 ∷ [])) (0 ↣ 2 ∷ 6 ↣ 2 ∷ 2 ↣ 6 ∷ [])
+    -- marks play no part
+    × Leaves 1 (shelf 0 1 1 (1 ↣ 4 ∷ 4 ↣ 2 ∷ [])) (1 ↣ 2 ∷ 0 ↣ 2 ∷ [])
+    -- but with the driver marked the flow of document 01 is recorded besides, also where the driver asks
+    × Leaves 1 (shelf 3 0 0 (1 ↣ 4 ∷ 4 ↣ 2 ∷ [])) (1 ↣ 2 ∷ 0 ↣ 2 ∷ 1 ↣ 0 ∷ [])
+    × Leaves 0 (shelf 3 0 0 (4 ↣ 2 ∷ [])) (0 ↣ 2 ∷ 0 ↣ 0 ∷ [])
 
 -- ---- row 16
 
@@ -57,34 +63,43 @@ abbrev pub Feeding : Type 0
 Feeding =
     -- the file is marked and feeds 2, which is not
     (feedsUnmarked (shelf 0 0 1 (4 ↣ 2 ∷ [])) 4 ≡ true)
-    -- which is
+    -- the same, with 2 marked
     × (feedsUnmarked (shelf 0 1 1 (4 ↣ 2 ∷ [])) 4 ≡ false)
     -- it feeds only itself, and a free number
     × (feedsUnmarked (shelf 0 0 1 (4 ↣ 4 ∷ 4 ↣ 6 ∷ [])) 4 ≡ false)
-    -- not the file is marked, but its driver
+    -- the driver is marked and the file is not
     × (feedsUnmarked (shelf 3 0 0 (4 ↣ 2 ∷ [])) 4 ≡ false)
 
 -- ---- the trail past the file: 1 fed it and it fed 2; it is deleted, and then 1 is marked
 
--- a step would mark x
-unfoldable pub steps : ℕ → Bool
-steps x = fed Q (effect (mark-outside 1) (deleted (shelf 0 0 0 (1 ↣ 4 ∷ 4 ↣ 2 ∷ [])))) x
+-- something marked feeds x
+unfoldable pub reached : ℕ → Bool
+reached x = fed Q (effect (mark-outside 1) (deletedBy 1 (shelf 0 0 0 (1 ↣ 4 ∷ 4 ↣ 2 ∷ [])))) x
 
 abbrev pub TrailKept : Type 0
 TrailKept =
     -- 2, as a chain led there
-    (steps 2 ≡ true)
+    (reached 2 ≡ true)
     -- and not 5, as none did
-    × (steps 5 ≡ false)
+    × (reached 5 ≡ false)
 
--- ---- whole calls, the core and task 1 having write access to the folder
+-- ---- whole calls
 
+-- the core and task 1 have write access to the folder
 unfoldable pub scratch : ℕ → ℕ → ℕ → List Pair → Memory
-scratch k j i flows =
-    memory (filed k j i (fresh .bytes)) (recording flows (addCell rowSize (addCell rowSize (fresh .words) (writeRow present 0) 3) (writeRow present 1) 3))
+scratch core two file flows =
+    memory (filed core two file (fresh .bytes)) (recording flows (addCell rowSize (addCell rowSize (fresh .words) (writeRow present 0) 3) (writeRow present 1) 3))
+
+-- with an object 7 in the file
+unfoldable pub filling : Memory → Memory
+filling m = memory (setRecord (m .bytes) 7 2 0 0 0 (containerByte (within 4) present) 0 (spareByte (within 4) present)) (m .words)
 
 unfoldable pub deletions : List Trial
 deletions =
+    -- granted
     trial Q (scratch 0 0 0 (1 ↣ 4 ∷ 4 ↣ 2 ∷ [])) (Delete 1 0 4 3) 0 (1 ↣ 2 ∷ 0 ↣ 2 ∷ [])
+    -- refused with 16
     ∷ trial Q (scratch 0 0 1 (4 ↣ 2 ∷ [])) (Delete 1 0 4 3) 16 (4 ↣ 2 ∷ [])
+    -- and with 12 before it
+    ∷ trial Q (filling (scratch 0 0 1 (4 ↣ 2 ∷ []))) (Delete 1 0 4 3) 12 (4 ↣ 2 ∷ [])
     ∷ []

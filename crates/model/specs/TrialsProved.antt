@@ -22,7 +22,7 @@ use Rattle.model.specs.Effects.{objectOf, markOne, markWhere, feeder, fe
 use Rattle.model.specs.Events.{Outcome, unless, firstFailing, verdictOf, outcome, feedsUnmarked, read, move, delete, invoke, fed}
 use Rattle.model.specs.Monitor.{perform, fitted, refusedUnless, refusal, start, started}
 use Rattle.model.specs.MoveTrials.{holding, drawers, moves}
-use Rattle.model.specs.DeleteTrials.{filed, recording, shelf, deleted, Bridges, Feeding, steps, TrailKept, scratch, deletions}
+use Rattle.model.specs.DeleteTrials.{filed, recording, shelf, deletedBy, Bridges, Feeding, reached, TrailKept, scratch, filling, deletions}
 use Rattle.model.specs.Inside.{walk, inside}
 use Rattle.model.specs.Trials.{Pair, Trial, Holds, AllHold, listed, orderOf, Q, fresh, threeThings, twoTasks, trials}
 
@@ -112,19 +112,19 @@ moves-hold = all-hold moves moves-computed
 
 -- the amended delete's
 pub bridges : Bridges
-unfolding deleted delete effects effect bridged joinRow clearThing clearColumn clearRow cutCell anyB upTo shelf filed recording field setField setRecord isObject wordOf bit hasFlow cell inUse object marked objectOf feeder fedBy addCell
-bridges = (refl, refl, refl, refl)
+unfolding deletedBy delete effects effect bridged joinRow clearThing clearColumn clearRow cutCell anyB upTo shelf filed recording field setField setRecord isObject wordOf bit hasFlow cell inUse object marked objectOf feeder fedBy addCell
+bridges = (refl, refl, refl, refl, refl, refl, refl)
 
 pub feeding : Feeding
 unfolding feedsUnmarked anyB upTo shelf filed recording field setField setRecord isObject wordOf bit hasFlow cell inUse object marked objectOf feeder fedBy addCell
 feeding = (refl, refl, refl, refl)
 
 pub trail-kept : TrailKept
-unfolding steps fed markOne markWhere deleted delete effects effect bridged joinRow clearThing clearColumn clearRow cutCell anyB upTo shelf filed recording field setField setRecord isObject wordOf bit hasFlow cell inUse object marked objectOf feeder fedBy addCell
+unfolding reached fed markOne markWhere deletedBy delete effects effect bridged joinRow clearThing clearColumn clearRow cutCell anyB upTo shelf filed recording field setField setRecord isObject wordOf bit hasFlow cell inUse object marked objectOf feeder fedBy addCell
 trail-kept = (refl, refl)
 
 deletions-computed : allPass deletions ≡ true
-unfolding allPass passes agrees equalUpTo named flowWords allB anyB upTo deletions scratch filed recording Q orderOf fresh started fitted refusedUnless refusal lengthsFit soundOf coreRecord soundRecordOf freeRecord taskRecord objectRecordOf isTask isObject field setField setRecord orderPasses countFits reflexive transitive antisymmetric belowTop clearOutside atOrBelow bit wordOf outcome verdictOf firstFailing unless feedsUnmarked delete liesWithin hasWrite hasFlow cell inUse task object marked objectOf feeder fedBy effects effect bridged joinRow clearThing clearColumn clearRow cutCell addCell
+unfolding allPass passes agrees equalUpTo named flowWords allB anyB upTo deletions scratch filling filed recording Q orderOf fresh started fitted refusedUnless refusal lengthsFit soundOf coreRecord soundRecordOf freeRecord taskRecord objectRecordOf isTask isObject field setField setRecord orderPasses countFits reflexive transitive antisymmetric belowTop clearOutside atOrBelow bit wordOf outcome verdictOf firstFailing unless feedsUnmarked delete liesWithin hasWrite hasFlow cell inUse task object marked objectOf feeder fedBy effects effect bridged joinRow clearThing clearColumn clearRow cutCell addCell
 deletions-computed = refl
 
 pub deletions-hold : AllHold deletions

@@ -37,10 +37,10 @@ clearColumn n r y ws = upTo (λ x v. cutCell n v x y) r ws
 unfoldable pub clearThing : ℕ → ℕ → ℕ → ℕ → List ℕ → List ℕ
 clearThing n r t k ws = clearColumn n (r * t) k (upTo (λ i v. clearRow n (r * i + k) v) t ws)
 
--- with the columns of row x that pass set, word by word
+-- with each column of row x that passes t set, word by word
 unfoldable pub joinRow : ℕ → ℕ → (ℕ → Bool) → List ℕ → List ℕ
 joinRow n x t ws = upTo (λ i v. set v (n * x + i) (bitOr (getD v (n * x + i) 0) (wordOf (λ j. t (64 * i + j))))) n ws
 
--- with each of the first r rows that passes `from` joined with the columns that pass `to`, but for its own
+-- with the columns that pass `to` set in each of the first r rows that passes `from`, but for the row's own column
 unfoldable pub bridged : ℕ → ℕ → (ℕ → Bool) → (ℕ → Bool) → List ℕ → List ℕ
 bridged n r from to ws = upTo (λ x v. cond (from x) (joinRow n x (λ y. to y && not (eqb y x)) v) v) r ws
