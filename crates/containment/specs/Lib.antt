@@ -21,4 +21,8 @@ pub mod PlaceProof
 pub mod Witness
 pub mod LoadProof
 pub mod TallyProof
+pub mod Reach
+pub mod Bypass
+pub mod Carries
+pub mod OneCall
 pub mod Proved

@@ -13,19 +13,19 @@ use Rattle.model.specs.State.{MemoryOf, inUse, marked}
 use Rattle.model.specs.Monitor.{perform}
 use Rattle.containment.specs.Lists.{Item, asks, StandingOf, next, run, begun, Begins}
 use Rattle.containment.specs.Claims.{Reached}
-use Rattle.containment.specs.History.{History, lifeOf, Trail, Named, every, direct, after, historyOf}
+use Rattle.containment.specs.History.{History, lifeOf, Trail, every, direct, after, historyOf}
 
 -- a thing in use is marked exactly when a chain of joins leads to its life from a life that a granted mark named
 abbrev pub Trailed : {size : Size} → StandingOf size → History → Type 0
-Trailed s h = (x : ℕ) → inUse (s .memory) x ≡ true → (marked (s .memory) x ≡ true) ↔ Trail h (Named h) (lifeOf h x)
+Trailed s h = (x : ℕ) → inUse (s .memory) x ≡ true → (marked (s .memory) x ≡ true) ↔ Trail h (lifeOf h x)
 
--- after every list that ends in a granted spread, whatever orders its calls are lent
+-- after every list that ends in a granted spread; here its calls may be lent any orders. Bridging too little breaks this
 abbrev pub TrailExact : Type 0
 TrailExact = (size : Size) (b : Item) (m : MemoryOf size) (is : List Item) → Begins m b
     → (o : Order) → let s = run is (begun b m) in perform o (s .memory) Spread .verdict ≡ granted
     → Trailed (next (asks o Spread) s) (after every (asks o Spread) s (historyOf every b m is))
 
--- and no chain needs a flow that bridging recorded: a deletion that bridges too much breaks this, one that bridges too little breaks TrailExact
+-- and, for the lists of demand 3, no chain needs a flow that bridging recorded: bridging leads no mark where none led before
 abbrev pub TrailDirect : Type 0
 TrailDirect = (size : Size) (b : Item) (m : MemoryOf size) (is : List Item) → Reached b m is
     → (o : Order) → let s = run is (begun b m) in perform o (s .memory) Spread .verdict ≡ granted
