@@ -1,4 +1,3 @@
--- NOTE FOR WHOEVER PROVES THIS (delete this line when done): this file and TrailClaims.antt were changed at 19:45 after a review. Trail has no set S any more (keep the general chain from a set of lives beside the proofs), direct counting is by recordedBy (no bridge effect here), present is isNow, fresh is anew, grown takes the flows that count as a test.
 -- The history of a list, for document 02's deletions: lives, which of them were joined, and which of them granted marks have named, since the state of a
 -- start. It is told from the calls of the list and from what they leave; it knows nothing of the spread and of the bridging.
 -- Assumes nothing.

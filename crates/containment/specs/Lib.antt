@@ -25,4 +25,6 @@ pub mod Reach
 pub mod Bypass
 pub mod Carries
 pub mod OneCall
+pub mod Joins
+pub mod Trails
 pub mod Proved

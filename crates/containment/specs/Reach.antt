@@ -34,8 +34,8 @@ module _ {size : Size} {m : MemoryOf size} {S : ℕ → Type 0} where
   reach-below (down x y r l o d) = l
 
   -- what is reached from what is reached is reached
-  pub reach-then : {T : ℕ → Type 0} {y : ℕ} → Reach m T y → ((x : ℕ) → T x → Reach m S x) → Reach m S y
-  reach-then (at x l u t) f = f x t
+  pub reach-then : {T : ℕ → Type 0} {y : ℕ} → Reach m T y → ((x : ℕ) → inUse m x ≡ true → T x → Reach m S x) → Reach m S y
+  reach-then (at x l u t) f = f x u t
   reach-then (along x y r l u g) f = along x y (reach-then r f) l u g
   reach-then (down x y r l o d) f = down x y (reach-then r f) l o d
 
