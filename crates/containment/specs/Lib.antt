@@ -27,4 +27,5 @@ pub mod Carries
 pub mod OneCall
 pub mod Joins
 pub mod Trails
+pub mod Direct
 pub mod Proved

@@ -1,0 +1,135 @@
+-- The trail is exact without the flows that bridging records: what a call did not record itself is a path that it found.
+-- Assumes nothing.
+use mathlib.Core.Path.{_≡_, refl, sym, ap, _∙_}
+use mathlib.Core.Bool.{true, not, _&&_, _||_, and-eq-true-iff}
+use mathlib.Core.Logic.{_⊎_, inl, inr, ⊎-elim}
+use mathlib.Core.List.{List, [], _∷_}
+use Prim.Native.Nat.{ℕ, _<_}
+use lib.Dec.{eqb}
+use Rattle.bits.specs.AllLaws.{either, or-cases, or-r, and-i, and-l}
+use Rattle.rows.specs.Size.{Size, numbersOf}
+use Rattle.levels.specs.declared.Order.{Order}
+use Rattle.levels.specs.OrderLaws.{is-order}
+use Rattle.model.specs.declared.Call.{Call}
+use Rattle.model.specs.declared.Call.the-variants.{Start, Read, Write, Execute, Create, CreateRoot, Move, Delete, CallTask, Invoke, Pass, Post, Find, Mark, Step, Spread}
+use Rattle.model.specs.Verdicts.{isDone}
+use Rattle.model.specs.State.{MemoryOf, inUse, task, object, marked, hasFlow}
+use Rattle.model.specs.StateLaws.{task-used, object-used, used-below}
+use Rattle.model.specs.Effects.{flow-if, bridge, clear, effect, effects}
+use Rattle.model.specs.EffectLaws.{Long, fit-long, effect-long, flow-after}
+use Rattle.model.specs.Events.{delete}
+use Rattle.model.specs.Monitor.{perform}
+use Rattle.model.specs.SoundLaws.{leaves-sound}
+use Rattle.model.specs.TableLaws.{event-done}
+use Rattle.containment.specs.Lists.{Item, asks, reports, loads, StandingOf, role, next, run, Admissible, begun}
+use Rattle.containment.specs.TrailClaims.{TrailDirect}
+use Rattle.containment.specs.Invariant.{Limits, Invariant, contained}
+use Rattle.containment.specs.Preserve.{effect-keeps}
+use Rattle.containment.specs.CallsKeep.{NoStart}
+use Rattle.containment.specs.ItemsKeep.{begun-keeps, next-keeps, run-keeps}
+use Rattle.containment.specs.History.{direct, counts}
+use Rattle.containment.specs.Reach.{at, along, Path}
+use Rattle.containment.specs.Bypass.{bridge-adds-none}
+use Rattle.containment.specs.Trails.{Counted, ItemCounted, AllCounted, counted-trail}
+
+-- within the limits a flow is a path, since it joins things in use
+flow-path : {size : Size} (s : StandingOf size) → Limits s → (x y : ℕ) → x < numbersOf size → y < numbersOf size → hasFlow (s .memory) x y ≡ true → Path (s .memory) x y
+flow-path s k x y lx ly f = let j = contained s k .flows-join x y lx ly f in along x y (at x lx (j .0) refl) ly (j .1) f
+
+module _ {size : Size} (s : StandingOf size) (i : Invariant s) where
+  abbrev m : MemoryOf size
+  m = s .memory
+
+  long : Long m
+  long = fit-long m (i .limits .fits)
+
+  -- ---- a call that counts what it leaves and did not find
+
+  found-counted : (c : Call) (n : MemoryOf size) → Long n → ((x y : ℕ) → counts direct c m n x y ≡ (hasFlow n x y && not (hasFlow m x y))) → Counted direct c m n
+  found-counted c n l same =
+      record {
+        recorded = λ x y ux uy f. and-l (hasFlow n x y) _ (sym (same x y) ∙ f);
+        found = λ x y ux uy f.
+            ⊎-elim (λ e. inr (flow-path s (i .limits) x y (used-below n x (l .bytes-long) ux) (used-below n y (l .bytes-long) uy) e)) (λ e. inl (same x y ∙ and-i f (ap not e)))
+            (either (hasFlow m x y));
+      }
+
+  -- ---- a deletion counts the flow from its asker to its marked driver; the others were there or are bridged (C)
+
+  delete-counted : (e d x q : ℕ) → task m e ≡ true → task m d ≡ true → object m x ≡ true → Counted direct (Delete e d x q) m (effects (bridge x ∷ clear x ∷ flow-if (marked m d) e d ∷ []) m)
+  unfolding effects counts
+  delete-counted e d x q te td ox =
+      record {
+        recorded = λ u v uu uv f. asked u v (below u uu) (below v uv) ∙ or-r (hasFlow cleared u v) _ f;
+        found = λ u v uu uv f.
+            ⊎-elim (λ g. inr (bridged u v (below u uu) (below v uv) g)) (λ g. inl g)
+            (or-cases (hasFlow cleared u v) (marked m d && (eqb u e && eqb v d)) (sym (asked u v (below u uu) (below v uv)) ∙ f));
+      }
+    where
+      between : MemoryOf size
+      between = effect (bridge x) m
+
+      cleared : MemoryOf size
+      cleared = effect (clear x) between
+
+      last : MemoryOf size
+      last = effect (flow-if (marked m d) e d) cleared
+
+      found-below : (y : ℕ) → inUse m y ≡ true → y < numbersOf size
+      found-below y = used-below m y (long .bytes-long)
+
+      below : (y : ℕ) → inUse last y ≡ true → y < numbersOf size
+      below y = used-below last y (effect-long (flow-if (marked m d) e d) (effect-long (clear x) (effect-long (bridge x) long)) .bytes-long)
+
+      asked : (u v : ℕ) → u < numbersOf size → v < numbersOf size → hasFlow last u v ≡ (hasFlow cleared u v || (marked m d && (eqb u e && eqb v d)))
+      asked u v lu lv = flow-after u v lu lv (flow-if (marked m d) e d) cleared (effect-long (clear x) (effect-long (bridge x) long)) (found-below e (task-used m e te), found-below d (task-used m d td))
+
+      bridged : (u v : ℕ) → u < numbersOf size → v < numbersOf size → hasFlow cleared u v ≡ true → Path m u v
+      bridged u v lu lv f =
+          let ux = object-used m x ox in
+          let k = effect-keeps s (is-order (s .order) (i .passes)) (i .limits) (bridge x) ux in
+          let g = simp and-eq-true-iff at (sym (flow-after u v lu lv (clear x) between (effect-long (bridge x) long) (found-below x ux)) ∙ f) in
+          bridge-adds-none m long x ux (λ z. u ≡ z) (flow-path _ k u v lu lv (g .0 .0))
+
+  -- ---- every call
+
+  left : (o : Order) (c : Call) → isDone (perform o m c .verdict) ≡ true → Long (perform o m c .memory)
+  left o c h = fit-long _ (leaves-sound size o m c h .0)
+
+  call-counted : (o : Order) (c : Call) → isDone (perform o m c .verdict) ≡ true → NoStart (role c) → Counted direct c m (perform o m c .memory)
+  unfolding counts delete
+  call-counted o (Delete e d x q) h w =
+      let t = event-done o m (delete o m e d x q) refl h in
+      let a = simp and-eq-true-iff at (t .tests .0) in
+      rw (t .leaves) (delete-counted e d x q (a .0 .0 .0) (a .0 .0 .1) (a .0 .1))
+  call-counted o Start h w = absurd w
+  call-counted o (Read e d x) h w = found-counted (Read e d x) _ (left o (Read e d x) h) (λ u v. refl)
+  call-counted o (Write e d x) h w = found-counted (Write e d x) _ (left o (Write e d x) h) (λ u v. refl)
+  call-counted o (Execute c p n l r) h w = found-counted (Execute c p n l r) _ (left o (Execute c p n l r) h) (λ u v. refl)
+  call-counted o (Create c d n q l) h w = found-counted (Create c d n q l) _ (left o (Create c d n q l) h) (λ u v. refl)
+  call-counted o (CreateRoot c d n l) h w = found-counted (CreateRoot c d n l) _ (left o (CreateRoot c d n l) h) (λ u v. refl)
+  call-counted o (Move e d x f t) h w = found-counted (Move e d x f t) _ (left o (Move e d x f t) h) (λ u v. refl)
+  call-counted o (CallTask a b) h w = found-counted (CallTask a b) _ (left o (CallTask a b) h) (λ u v. refl)
+  call-counted o (Invoke a b) h w = found-counted (Invoke a b) _ (left o (Invoke a b) h) (λ u v. refl)
+  call-counted o (Pass z x y) h w = found-counted (Pass z x y) _ (left o (Pass z x y) h) (λ u v. refl)
+  call-counted o (Post x z y) h w = found-counted (Post x z y) _ (left o (Post x z y) h) (λ u v. refl)
+  call-counted o (Find x z y) h w = found-counted (Find x z y) _ (left o (Find x z y) h) (λ u v. refl)
+  call-counted o (Mark e) h w = found-counted (Mark e) _ (left o (Mark e) h) (λ u v. refl)
+  call-counted o (Step x) h w = found-counted (Step x) _ (left o (Step x) h) (λ u v. refl)
+  call-counted o Spread h w = found-counted Spread _ (left o Spread h) (λ u v. refl)
+
+  item-counted : (j : Item) → ItemCounted direct j s
+  item-counted (asks o c) = call-counted o c
+  item-counted (reports o) = tt
+  item-counted (loads o t) = tt
+
+-- ---- every list of demand 3
+
+all-counted : {size : Size} (is : List Item) (s : StandingOf size) → Invariant s → Admissible is s → AllCounted direct is s
+all-counted [] s i a = tt
+all-counted (j ∷ is) s i a = (item-counted s i j, all-counted is (next j s) (next-keeps j s i (a .0)) (a .1))
+
+pub trail-direct : TrailDirect
+trail-direct size b m is r o =
+    let i = begun-keeps (r .beginning) in
+    counted-trail direct b m is (r .beginning) (all-counted is (begun b m) i (r .admissible)) o (item-counted (run is (begun b m)) (run-keeps is (begun b m) i (r .admissible)) (asks o Spread))
