@@ -1,22 +1,21 @@
--- A thing x goes, and what fed it feeds what it fed: paths past it stay (A, B), and bridging makes none (C).
+-- A thing goes, and what fed it feeds what it fed: paths past it stay (A, B), and bridging makes none that was not there (C).
 -- Assumes nothing.
 use mathlib.Core.Path.{_≡_, refl, sym, ap, subst, _∙_}
-use mathlib.Core.Bool.{Bool, true, false, not, _&&_, _||_, and-eq-true-iff, true≢false}
+use mathlib.Core.Bool.{true, false, not, _&&_, _||_, and-eq-true-iff, true≢false}
 use mathlib.Core.Logic.{_⊎_, inl, inr, ⊎-elim}
-use mathlib.Core.List.{[], _∷_}
 use Prim.Native.Nat.{ℕ, _<_}
 use lib.Dec.{eqb}
 use borrow.Author.Tests.{eqb-true, eqb-false, eq-eqb, ne-eqb, not-true}
-use Rattle.bits.specs.AllLaws.{either, or-cases, or-l, or-r, and-i}
+use Rattle.bits.specs.AllLaws.{or-cases, or-l, or-r, and-i}
 use Rattle.rows.specs.Size.{Size, numbersOf}
 use Rattle.model.specs.State.{MemoryOf, inUse, task, object, driverOf, marked, hasFlow}
 use Rattle.model.specs.StateLaws.{object-used, object-task, used-below}
-use Rattle.model.specs.Effects.{flow-if, bridge, clear, objectOf, feeder, fedBy, effect, effects}
+use Rattle.model.specs.Effects.{bridge, clear, objectOf, feeder, fedBy, effect}
 use Rattle.model.specs.EffectLaws.{Long, effect-long, flow-after, inUse-after, object-after, driver-after, marked-after}
 use Rattle.containment.specs.Changes.{is-number}
 use Rattle.containment.specs.Reach.{Reach, at, along, down, Path, Fed, reach-used, reach-below}
 
--- n is m without x, the feeders of x joined to what it fed
+-- n is m without x, and what fed x, or drove it, feeds what it fed
 pub record Bypasses {size : Size} (m n : MemoryOf size) (x : ℕ) : Type 0 where
   pub gone : inUse n x ≡ false
   pub used : (y : ℕ) → (y ≡ x → ⊥) → inUse n y ≡ inUse m y
@@ -29,9 +28,11 @@ pub record Bypasses {size : Size} (m n : MemoryOf size) (x : ℕ) : Type 0 where
   pub drives-none : (y : ℕ) → object m y ≡ true → driverOf m y ≡ x → ⊥
 
 module _ {size : Size} (m n : MemoryOf size) (x : ℕ) (b : Bypasses m n x) where
+  -- what is in use afterwards is not x
   pub not-gone : (y : ℕ) → inUse n y ≡ true → y ≡ x → ⊥
   not-gone y u e = true≢false (sym u ∙ ap (inUse n) e ∙ b .gone)
 
+  -- a step to x comes from a feeder
   by-flow : (p : ℕ) → inUse m p ≡ true → (p ≡ x → ⊥) → hasFlow m p x ≡ true → feeder m x p ≡ true
   unfolding feeder
   by-flow p u e f = and-i (and-i u (rw (ne-eqb p x e))) (or-l (hasFlow m p x) _ f)
@@ -40,25 +41,30 @@ module _ {size : Size} (m n : MemoryOf size) (x : ℕ) (b : Bypasses m n x) wher
   unfolding feeder objectOf
   by-driver p u e o d = and-i (and-i u (rw (ne-eqb p x e))) (or-r (hasFlow m p x) _ (and-i o (eq-eqb _ _ d)))
 
+  -- and one from x goes to what it fed
   fed-flow : (q : ℕ) → inUse m q ≡ true → (q ≡ x → ⊥) → hasFlow m x q ≡ true → fedBy m x q ≡ true
   unfolding fedBy
   fed-flow q u e f = and-i (and-i u (rw (ne-eqb q x e))) f
 
-  -- from S in m to T in n: what is in S stays in T, and if x was in S then what it fed is in T
+  -- what is in S stays in T, and if x was in S then what it fed is in T
   module _ (S T : ℕ → Type 0) (stay : (z : ℕ) → (z ≡ x → ⊥) → S z → T z) (hand : S x → (q : ℕ) → fedBy m x q ≡ true → (q ≡ x → ⊥) → T q) where
     -- what stands for a path that ends at x: one to a feeder, or x itself was in S
     abbrev Before : Type 0
     Before = ((p : ℕ) × (feeder m x p ≡ true) × Reach n T p) ⊎ S x
 
+    -- what stands for a path to y
     abbrev Past : ℕ → Type 0
     Past y = ((y ≡ x) × Before) ⊎ ((y ≡ x → ⊥) × Reach n T y)
 
+    -- a path is followed step by step
     past : {y : ℕ} → Reach m S y → Past y
     past (at y l u s) = ⊎-elim (λ (e : y ≡ x). inl (e, inr (subst S e s))) (λ (e : y ≡ x → ⊥). inr (e, at y l (b .used y e ∙ u) (stay y e s))) (is-number y x)
     past (along z y r l u f) = ⊎-elim (enters (past r)) (goes (past r)) (is-number y x)
       where
         enters : Past z → y ≡ x → Past y
-        enters so e = ⊎-elim (λ (q : (z ≡ x) × Before). inl (e, q .1)) (λ (q : (z ≡ x → ⊥) × Reach n T z). inl (e, inl (z, by-flow z (reach-used r) (q .0) (subst (λ (k : ℕ). hasFlow m z k ≡ true) e f), q .1))) so
+        enters so e =
+            ⊎-elim (λ (q : (z ≡ x) × Before). inl (e, q .1))
+            (λ (q : (z ≡ x → ⊥) × Reach n T z). inl (e, inl (z, by-flow z (reach-used r) (q .0) (subst (λ (k : ℕ). hasFlow m z k ≡ true) e f), q .1))) so
 
         leaves : (y ≡ x → ⊥) → hasFlow m x y ≡ true → Before → Reach n T y
         leaves e g (inl p) =
@@ -82,6 +88,7 @@ module _ {size : Size} (m n : MemoryOf size) (x : ℕ) (b : Bypasses m n x) wher
             ⊎-elim (λ (e : y ≡ x). inl (e, inl (z, by-driver z (reach-used r) (q .0) (subst (λ (k : ℕ). object m k ≡ true) e o) (subst (λ (k : ℕ). driverOf m k ≡ z) e d), q .1)))
             (λ (e : y ≡ x → ⊥). inr (e, down z y (q .1) l (b .objects y e ∙ o) (b .drivers y e ∙ d))) (is-number y x)
 
+    -- what stays and was reached from S is reached from T
     pub reach-past : (y : ℕ) → inUse n y ≡ true → Reach m S y → Reach n T y
     reach-past y u r = ⊎-elim (λ (q : (y ≡ x) × Before). absurd (not-gone y u (q .0))) (λ (q : (y ≡ x → ⊥) × Reach n T y). q .1) (past r)
 
@@ -109,11 +116,13 @@ module _ {size : Size} (m : MemoryOf size) (long : Long m) (x : ℕ) (o : object
   long′ : Long between
   long′ = effect-long (bridge x) long
 
+  -- a flow that was there or is bridged, and is not x's, is there afterwards
   kept-flow : (u v : ℕ) → u < numbersOf size → v < numbersOf size → (u ≡ x → ⊥) → (v ≡ x → ⊥) → (hasFlow m u v || (feeder m x u && (fedBy m x v && not (eqb v u)))) ≡ true → hasFlow cleared u v ≡ true
   kept-flow u v lu lv eu ev h =
       flow-after u v lu lv (clear x) between long′ below
       ∙ and-i (and-i (flow-after u v lu lv (bridge x) m long tt ∙ h) (rw (ne-eqb u x eu))) (rw (ne-eqb v x ev))
 
+  -- x neither feeds itself nor is fed by itself
   feeder-not : (p : ℕ) → feeder m x p ≡ true → p ≡ x → ⊥
   unfolding feeder
   feeder-not p h = let t = simp and-eq-true-iff at h in eqb-false p x (not-true (eqb p x) (t .0 .1))
@@ -136,8 +145,10 @@ module _ {size : Size} (m : MemoryOf size) (long : Long m) (x : ℕ) (o : object
         drives-none = λ y h d. true≢false (sym (drivers y h) ∙ ap (task m) d ∙ object-task m x o);
       }
 
--- C: bridging makes no path that was not there
+-- ---- bridging past a thing in use
+
 module _ {size : Size} (m : MemoryOf size) (long : Long m) (x : ℕ) (u : inUse m x ≡ true) (S : ℕ → Type 0) where
+  -- what is bridged went through x
   through : (z y : ℕ) → y < numbersOf size → Reach m S z → (feeder m x z && (fedBy m x y && not (eqb y z))) ≡ true → Reach m S y
   unfolding feeder fedBy objectOf
   through z y l r h =
@@ -151,6 +162,7 @@ module _ {size : Size} (m : MemoryOf size) (long : Long m) (x : ℕ) (u : inUse 
       into (inl f) = along z x r lx u f
       into (inr d) = let t = simp and-eq-true-iff at d in down z x r lx (t .0) (eqb-true (driverOf m x) z (t .1))
 
+  -- C: bridging makes no path that was not there
   pub bridge-adds-none : {y : ℕ} → Reach (effect (bridge x) m) S y → Reach m S y
   unfolding effect inUse object
   bridge-adds-none (at y l v s) = at y l v s

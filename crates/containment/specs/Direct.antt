@@ -45,16 +45,21 @@ module _ {size : Size} (s : StandingOf size) (i : Invariant s) where
 
   -- ---- a call that counts what it leaves and did not find
 
-  found-counted : (c : Call) (n : MemoryOf size) → Long n → ((x y : ℕ) → counts direct c m n x y ≡ (hasFlow n x y && not (hasFlow m x y))) → Counted direct c m n
-  found-counted c n l same =
+  found-counted : (o : Order) (c : Call) → isDone (perform o m c .verdict) ≡ true
+      → ((x y : ℕ) → counts direct c m (perform o m c .memory) x y ≡ (hasFlow (perform o m c .memory) x y && not (hasFlow m x y))) → Counted direct c m (perform o m c .memory)
+  found-counted o c h same =
       record {
         recorded = λ x y ux uy f. and-l (hasFlow n x y) _ (sym (same x y) ∙ f);
-        found = λ x y ux uy f.
-            ⊎-elim (λ e. inr (flow-path s (i .limits) x y (used-below n x (l .bytes-long) ux) (used-below n y (l .bytes-long) uy) e)) (λ e. inl (same x y ∙ and-i f (ap not e)))
-            (either (hasFlow m x y));
+        found = λ x y ux uy f. ⊎-elim (λ e. inr (flow-path s (i .limits) x y (below x ux) (below y uy) e)) (λ e. inl (same x y ∙ and-i f (ap not e))) (either (hasFlow m x y));
       }
+    where
+      n : MemoryOf size
+      n = perform o m c .memory
 
-  -- ---- a deletion counts the flow from its asker to its marked driver; the others were there or are bridged (C)
+      below : (x : ℕ) → inUse n x ≡ true → x < numbersOf size
+      below x = used-below n x (fit-long n (leaves-sound size o m c h .0) .bytes-long)
+
+  -- ---- a deletion counts the flow from its asker to its marked driver; the others were there, or are bridged
 
   delete-counted : (e d x q : ℕ) → task m e ≡ true → task m d ≡ true → object m x ≡ true → Counted direct (Delete e d x q) m (effects (bridge x ∷ clear x ∷ flow-if (marked m d) e d ∷ []) m)
   unfolding effects counts
@@ -75,15 +80,20 @@ module _ {size : Size} (s : StandingOf size) (i : Invariant s) where
       last : MemoryOf size
       last = effect (flow-if (marked m d) e d) cleared
 
+      long′ : Long cleared
+      long′ = effect-long (clear x) (effect-long (bridge x) long)
+
       found-below : (y : ℕ) → inUse m y ≡ true → y < numbersOf size
       found-below y = used-below m y (long .bytes-long)
 
       below : (y : ℕ) → inUse last y ≡ true → y < numbersOf size
-      below y = used-below last y (effect-long (flow-if (marked m d) e d) (effect-long (clear x) (effect-long (bridge x) long)) .bytes-long)
+      below y = used-below last y (effect-long (flow-if (marked m d) e d) long′ .bytes-long)
 
+      -- the flows that it leaves
       asked : (u v : ℕ) → u < numbersOf size → v < numbersOf size → hasFlow last u v ≡ (hasFlow cleared u v || (marked m d && (eqb u e && eqb v d)))
-      asked u v lu lv = flow-after u v lu lv (flow-if (marked m d) e d) cleared (effect-long (clear x) (effect-long (bridge x) long)) (found-below e (task-used m e te), found-below d (task-used m d td))
+      asked u v lu lv = flow-after u v lu lv (flow-if (marked m d) e d) cleared long′ (found-below e (task-used m e te), found-below d (task-used m d td))
 
+      -- what was there or is bridged was a path (C)
       bridged : (u v : ℕ) → u < numbersOf size → v < numbersOf size → hasFlow cleared u v ≡ true → Path m u v
       bridged u v lu lv f =
           let ux = object-used m x ox in
@@ -93,9 +103,6 @@ module _ {size : Size} (s : StandingOf size) (i : Invariant s) where
 
   -- ---- every call
 
-  left : (o : Order) (c : Call) → isDone (perform o m c .verdict) ≡ true → Long (perform o m c .memory)
-  left o c h = fit-long _ (leaves-sound size o m c h .0)
-
   call-counted : (o : Order) (c : Call) → isDone (perform o m c .verdict) ≡ true → NoStart (role c) → Counted direct c m (perform o m c .memory)
   unfolding counts delete
   call-counted o (Delete e d x q) h w =
@@ -103,20 +110,20 @@ module _ {size : Size} (s : StandingOf size) (i : Invariant s) where
       let a = simp and-eq-true-iff at (t .tests .0) in
       rw (t .leaves) (delete-counted e d x q (a .0 .0 .0) (a .0 .0 .1) (a .0 .1))
   call-counted o Start h w = absurd w
-  call-counted o (Read e d x) h w = found-counted (Read e d x) _ (left o (Read e d x) h) (λ u v. refl)
-  call-counted o (Write e d x) h w = found-counted (Write e d x) _ (left o (Write e d x) h) (λ u v. refl)
-  call-counted o (Execute c p n l r) h w = found-counted (Execute c p n l r) _ (left o (Execute c p n l r) h) (λ u v. refl)
-  call-counted o (Create c d n q l) h w = found-counted (Create c d n q l) _ (left o (Create c d n q l) h) (λ u v. refl)
-  call-counted o (CreateRoot c d n l) h w = found-counted (CreateRoot c d n l) _ (left o (CreateRoot c d n l) h) (λ u v. refl)
-  call-counted o (Move e d x f t) h w = found-counted (Move e d x f t) _ (left o (Move e d x f t) h) (λ u v. refl)
-  call-counted o (CallTask a b) h w = found-counted (CallTask a b) _ (left o (CallTask a b) h) (λ u v. refl)
-  call-counted o (Invoke a b) h w = found-counted (Invoke a b) _ (left o (Invoke a b) h) (λ u v. refl)
-  call-counted o (Pass z x y) h w = found-counted (Pass z x y) _ (left o (Pass z x y) h) (λ u v. refl)
-  call-counted o (Post x z y) h w = found-counted (Post x z y) _ (left o (Post x z y) h) (λ u v. refl)
-  call-counted o (Find x z y) h w = found-counted (Find x z y) _ (left o (Find x z y) h) (λ u v. refl)
-  call-counted o (Mark e) h w = found-counted (Mark e) _ (left o (Mark e) h) (λ u v. refl)
-  call-counted o (Step x) h w = found-counted (Step x) _ (left o (Step x) h) (λ u v. refl)
-  call-counted o Spread h w = found-counted Spread _ (left o Spread h) (λ u v. refl)
+  call-counted o (Read e d x) h w = found-counted o (Read e d x) h (λ u v. refl)
+  call-counted o (Write e d x) h w = found-counted o (Write e d x) h (λ u v. refl)
+  call-counted o (Execute c p n l r) h w = found-counted o (Execute c p n l r) h (λ u v. refl)
+  call-counted o (Create c d n q l) h w = found-counted o (Create c d n q l) h (λ u v. refl)
+  call-counted o (CreateRoot c d n l) h w = found-counted o (CreateRoot c d n l) h (λ u v. refl)
+  call-counted o (Move e d x f t) h w = found-counted o (Move e d x f t) h (λ u v. refl)
+  call-counted o (CallTask a b) h w = found-counted o (CallTask a b) h (λ u v. refl)
+  call-counted o (Invoke a b) h w = found-counted o (Invoke a b) h (λ u v. refl)
+  call-counted o (Pass z x y) h w = found-counted o (Pass z x y) h (λ u v. refl)
+  call-counted o (Post x z y) h w = found-counted o (Post x z y) h (λ u v. refl)
+  call-counted o (Find x z y) h w = found-counted o (Find x z y) h (λ u v. refl)
+  call-counted o (Mark e) h w = found-counted o (Mark e) h (λ u v. refl)
+  call-counted o (Step x) h w = found-counted o (Step x) h (λ u v. refl)
+  call-counted o Spread h w = found-counted o Spread h (λ u v. refl)
 
   item-counted : (j : Item) → ItemCounted direct j s
   item-counted (asks o c) = call-counted o c

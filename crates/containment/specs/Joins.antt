@@ -22,7 +22,7 @@ use Rattle.containment.specs.Carries.{Source, Carries, Nobody, grows-car
 -- `Linked h S a`: a chain of joins leads to the life a from one in S
 pub data Linked (h : History) (S : Life → Type 0) : Life → Type 0 where
   begins : (a : Life) → S a → Linked h S a
-  onward : (a b : Life) → Linked h S a → h .joined a b ≡ true → Linked h S b
+  further : (a b : Life) → Linked h S a → h .joined a b ≡ true → Linked h S b
 
 -- a granted mark has named it
 abbrev pub Named : History → Life → Type 0
@@ -31,17 +31,17 @@ Named h a = List·Memᴰ a (h .named)
 -- what was joined stays so, and so does what the chain begins at
 linked-more : {h k : History} {S T : Life → Type 0} → ((a b : Life) → h .joined a b ≡ true → k .joined a b ≡ true) → ((a : Life) → S a → T a) → {b : Life} → Linked h S b → Linked k T b
 linked-more j s (begins a q) = begins a (s a q)
-linked-more j s (onward a b t e) = onward a b (linked-more j s t) (j a b e)
+linked-more j s (further a b t e) = further a b (linked-more j s t) (j a b e)
 
 -- a chain, and one from where it ends
 linked-then : {h : History} {S : Life → Type 0} {a b : Life} → Linked h S a → Linked h (λ c. a ≡ c) b → Linked h S b
 linked-then {h} {S} t (begins b e) = subst (Linked h S) e t
-linked-then t (onward b c r j) = onward b c (linked-then t r) j
+linked-then t (further b c r j) = further b c (linked-then t r) j
 
 -- every chain begins somewhere
 linked-none : {h : History} {b : Life} → Linked h (λ c. ⊥) b → ⊥
 linked-none (begins a q) = q
-linked-none (onward a b t e) = linked-none t
+linked-none (further a b t e) = linked-none t
 
 -- ---- lives
 
@@ -155,7 +155,7 @@ module _ {size : Size} (flows : ℕ → ℕ → Bool) (m n : MemoryOf size) (ts 
       -- the ends of an earlier chain that is more than one life are known
       ends : (a : Life) {d : Life} → Linked h (λ c. a ≡ c) d → (a ≡ d) ⊎ (Known m h a × Known m h d)
       ends a (begins d e) = inl e
-      ends a (onward d f r j) =
+      ends a (further d f r j) =
           let w = t .known d f j in
           inr (⊎-elim (λ (e : a ≡ d). subst (Known m h) (sym e) (w .0)) (λ q. q .0) (ends a r), w .1)
 
@@ -177,13 +177,13 @@ module _ {size : Size} (flows : ℕ → ℕ → Bool) (m n : MemoryOf size) (ts 
         settle d (inr q) v = reach-then (link (q .0) d (q .3) (q .1) v) (λ x u e. subst (Reach n T) e (q .2))
 
         goes : (a d : Life) → Cut a → (h .joined a d ≡ true) ⊎ Now a d → Cut d
-        goes a d (inl r) (inl j) = inl (onward a d r j)
-        goes a d (inr q) (inl j) = inr (q .0, q .1, q .2, onward a d (q .3) j)
+        goes a d (inl r) (inl j) = inl (further a d r j)
+        goes a d (inr q) (inl j) = inr (q .0, q .1, q .2, further a d (q .3) j)
         goes a d q (inr j) = inr (d, j .1, step (a .number) (d .number) (j .1 .used) (j .2) (settle a q (j .0)), begins d refl)
 
         cut : {d : Life} → Linked g S′ d → Cut d
         cut (begins a s) = ⊎-elim (λ r. inl r) (λ q. inr (a, q .0, q .1, begins a refl)) (seed a s)
-        cut (onward a d r j) = goes a d (cut r) (split a d j)
+        cut (further a d r j) = goes a d (cut r) (split a d j)
 
         reaches : (d : Life) → Linked g S′ d → Living n g d → Reach n T (d .number)
         reaches d r v = settle d (cut r) v
@@ -195,7 +195,7 @@ module _ {size : Size} (flows : ℕ → ℕ → Bool) (m n : MemoryOf size) (ts 
 
       linked-known : {d : Life} → Linked h (Named h) d → Known m h d
       linked-known (begins a q) = t .known-named a q
-      linked-known (onward a d r j) = t .known a d j .1
+      linked-known (further a d r j) = t .known a d j .1
 
       -- what the call names is marked
       fed-seed : (a : Life) → Named g a → Linked h (Named h) a ⊎ (Living n g a × Fed n (a .number))
@@ -235,9 +235,9 @@ module _ {size : Size} (flows : ℕ → ℕ → Bool) (m n : MemoryOf size) (ts 
       led f (at x l u s) = f x u s
       led f (along x y r l u e) =
           let ux = reach-used r in
-          ⊎-elim (λ j. onward (lifeOf g x) (lifeOf g y) (led f r) (join-new x y ux u (or-l (flows x y) _ j)))
+          ⊎-elim (λ j. further (lifeOf g x) (lifeOf g y) (led f r) (join-new x y ux u (or-l (flows x y) _ j)))
           (λ q. linked-then (led f r) (carried x y ux u q)) (stays x y ux u e)
-      led f (down x y r l o d) = onward (lifeOf g x) (lifeOf g y) (led f r) (join-new x y (reach-used r) (object-used n y o) (or-r (flows x y) _ (and-i o (eq-eqb _ _ d))))
+      led f (down x y r l o d) = further (lifeOf g x) (lifeOf g y) (led f r) (join-new x y (reach-used r) (object-used n y o) (or-r (flows x y) _ (and-i o (eq-eqb _ _ d))))
 
       -- what was marked, or is named now
       sourced : (x : ℕ) → inUse n x ≡ true → Source m E x → Linked g (Named g) (lifeOf g x)
@@ -271,11 +271,11 @@ module _ {size : Size} (m : MemoryOf size) (long : Long m) (unmarked : (x : ℕ)
     where
       nowhere : {b : Life} → Linked none (Named none) b → ⊥
       nowhere (begins a q) = List·Memᴰ·not-nil q
-      nowhere (onward a b t j) = false≢true j
+      nowhere (further a b t j) = false≢true j
 
       alone : (a : Life) {b : Life} → Linked none (λ c. a ≡ c) b → Living m none b → Path m (a .number) (b .number)
       alone a (begins b e) lb = at (b .number) (used-below m (b .number) (long .bytes-long) (lb .used)) (lb .used) (ap (λ (z : Life). z .number) e)
-      alone a (onward c b t j) lb = absurd (false≢true j)
+      alone a (further c b t j) lb = absurd (false≢true j)
 
   nobody : (a : Life) → List·Memᴰ a [] ↔ (Named none a ⊎ ((y : ℕ) × Nobody y × (a ≡ lifeOf none y)))
   unfolding none

@@ -28,7 +28,6 @@ use Rattle.model.specs.MarkLaws.{MoreMarks, kept-marked, kept-inUse, kept-objec
 use Rattle.model.specs.SpreadLaws.{spread-more}
 use Rattle.model.specs.TableLaws.{Happened, refusals, event-done, fitted-done}
 use Rattle.containment.specs.Lists.{Role, starting, marking, other, role}
-use Rattle.containment.specs.Chains.{Chain}
 use Rattle.containment.specs.Claims.{Exact}
 use Rattle.containment.specs.Changes.{is-number}
 use Rattle.containment.specs.CallsKeep.{NoStart}
@@ -37,6 +36,7 @@ use Rattle.containment.specs.Reach.{Reach, at, along, down, chain-fed, G
 use Rattle.containment.specs.Bypass.{Bypasses, not-gone, past-path, past-fed, delete-bypasses}
 use Rattle.containment.specs.Carries.{Source, Origin, Carries, Nobody, same-origin, grows-carries, marked-used, effects-grow, quiet-carries}
 
+-- an object of the driver d
 own-object : {size : Size} (m : MemoryOf size) (d x : ℕ) → objectOf m d x ≡ true → (object m x ≡ true) × (driverOf m x ≡ d)
 unfolding objectOf
 own-object m d x h = let t = simp and-eq-true-iff at h in (t .0, eqb-true (driverOf m x) d (t .1))
@@ -244,6 +244,7 @@ module _ {size : Size} (o : Order) (m : MemoryOf size) where
       → isDone (fitted o m (outcome m e) .verdict) ≡ true → Carries m (fitted o m (outcome m e) .memory) E
   event-carries e E r f h = let d = event-done o m e r h in rw (d .leaves) (f d (fit-long m (d .lengths)))
 
+  -- every call that is done, and is no start
   pub call-carries : (c : Call) → NoStart (role c) → isDone (perform o m c .verdict) ≡ true → Carries m (perform o m c .memory) (Names (role c))
   unfolding read write execute create createRoot move delete callTask invoke pass post find mark fed step effects effect inUse marked
   call-carries Start n h = absurd n

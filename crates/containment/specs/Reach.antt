@@ -23,6 +23,7 @@ abbrev pub Fed : {size : Size} → MemoryOf size → ℕ → Type 0
 Fed m y = Reach m (λ z. marked m z ≡ true) y
 
 module _ {size : Size} {m : MemoryOf size} {S : ℕ → Type 0} where
+  -- what is reached is in use, and one of the numbers
   pub reach-used : {x : ℕ} → Reach m S x → inUse m x ≡ true
   reach-used (at x l u s) = u
   reach-used (along x y r l u f) = u

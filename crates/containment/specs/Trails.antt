@@ -1,7 +1,7 @@
 -- The history along a list, whichever flows count; and the trail is exact.
 -- Assumes nothing.
 use mathlib.Core.Path.{_≡_, refl, sym, ap, subst, _∙_}
-use mathlib.Core.Bool.{Bool, true}
+use mathlib.Core.Bool.{true}
 use mathlib.Core.Logic.{_⊎_, inl, inr, ⊎-elim, _↔_}
 use mathlib.Core.List.{List, [], _∷_, List·Memᴰ, List·Memᴰ·head, List·Memᴰ·tail, List·Memᴰ·cases-cons, List·Memᴰ·not-nil}
 use Prim.Native.Nat.{ℕ}
@@ -26,11 +26,11 @@ use Rattle.containment.specs.TrailClaims.{Trailed, TrailExact}
 use Rattle.containment.specs.Invariant.{standing, Invariant}
 use Rattle.containment.specs.CallsKeep.{NoStart, start-keeps}
 use Rattle.containment.specs.ItemsKeep.{load-keeps, begun-keeps}
-use Rattle.containment.specs.History.{Life, History, lifeOf, Trail, from, onward, Counting, every, direct, counts, grown, anew, enters, after, history, historyOf}
+use Rattle.containment.specs.History.{Life, History, lifeOf, Trail, from, onward, Counting, every, counts, grown, anew, enters, after, history, historyOf}
 use Rattle.containment.specs.Reach.{at, along, down, Path, Fed}
 use Rattle.containment.specs.Carries.{Carries}
 use Rattle.containment.specs.OneCall.{Names, call-carries}
-use Rattle.containment.specs.Joins.{Linked, begins, Named, Traced, Told, grown-traced, grown-told, anew-traced, anew-told}
+use Rattle.containment.specs.Joins.{Linked, begins, further, Named, Traced, Told, grown-traced, grown-told, anew-traced, anew-told}
 
 -- chains are paths now, and paths are chains
 abbrev Kept : {size : Size} → MemoryOf size → History → Type 0
@@ -55,6 +55,7 @@ anew-kept {size} o m i = (anew-traced m long unmarked, anew-told m long unmarked
 
 -- ---- every call
 
+-- a call is a start or not
 start-or-not : (c : Call) → (c ≡ Start) ⊎ NoStart (role c)
 start-or-not Start = inl refl
 start-or-not (Read e d x) = inr tt
@@ -83,6 +84,7 @@ module _ {size : Size} (k : Counting) (c : Call) (m n : MemoryOf size) (h : Hist
         (λ x l u q. kept .1 .feds x (at x l u q)),
   )
 
+  -- a call of that role
   enters-kept : (r : Role) → NoStart r → Carries m n (Names r) → Kept n (enters (counts k c m n) r m n h)
   unfolding enters
   enters-kept starting w r = absurd w
@@ -91,6 +93,7 @@ module _ {size : Size} (k : Counting) (c : Call) (m n : MemoryOf size) (h : Hist
       (λ a. (λ q. ⊎-elim (λ d. inr (e, refl, d)) (λ p. inl p) (List·Memᴰ·cases-cons q), λ q. ⊎-elim (λ p. List·Memᴰ·tail p) (λ p. List·Memᴰ·head (p .2 ∙ ap (lifeOf h) (p .1))) q))
   enters-kept other w r = grown-kept (λ y. ⊥) (h .named) r (λ a. (λ q. inl q, λ q. ⊎-elim (λ p. p) (λ p. absurd (p .1)) q))
 
+-- every call that is done
 call-kept : {size : Size} (k : Counting) (o : Order) (m : MemoryOf size) (c : Call) (h : History) → isDone (perform o m c .verdict) ≡ true
     → (NoStart (role c) → Counted k c m (perform o m c .memory)) → Kept m h → Kept (perform o m c .memory) (enters (counts k c m (perform o m c .memory)) (role c) m (perform o m c .memory) h)
 unfolding enters
@@ -110,16 +113,19 @@ ItemCounted k (asks o c) s = isDone (perform o (s .memory) c .verdict) ≡ true 
 ItemCounted k (reports o) s = Unit {0}
 ItemCounted k (loads o t) s = Unit {0}
 
+-- at every item of a list
 abbrev pub AllCounted : {size : Size} → Counting → List Item → StandingOf size → Type 0
 AllCounted k [] s = Unit {0}
 AllCounted k (i ∷ is) s = ItemCounted k i s × AllCounted k is (next i s)
 
+-- whatever its role, a call leaves its memory
 entered-memory : {size : Size} (r : Role) (o : Order) (n : MemoryOf size) (s : StandingOf size) → entered r o n s .memory ≡ n
 unfolding entered
 entered-memory starting o n s = refl
 entered-memory (marking e) o n s = refl
 entered-memory other o n s = refl
 
+-- every item
 next-kept : {size : Size} (k : Counting) (i : Item) (s : StandingOf size) (h : History) → ItemCounted k i s → Kept (s .memory) h → Kept (next i s .memory) (after k i s h)
 unfolding next after entered
 next-kept k (asks o c) s h t kept =
@@ -133,6 +139,7 @@ next-kept k (loads o t) s h u kept =
       | inr p ↦ rw p (rw (load-kept o (s .memory) t p) kept)
     ]
 
+-- every list
 run-kept : {size : Size} (k : Counting) (is : List Item) (s : StandingOf size) (h : History) → AllCounted k is s → Kept (s .memory) h → Kept (run is s .memory) (history k is s h)
 unfolding run history
 run-kept k [] s h t kept = kept
@@ -156,14 +163,14 @@ spread-closed {size} o s g =
     let l = fit-long m (f .lengths) .bytes-long in
     rw g (fit-long _ (leaves-sound size o m Spread (ap isDone g) .0), rw (f .inner) (rest-closed (spread m .memory) (sized-more (spread-more m) l) (spread-rests m l)))
 
--- chains from named lives
+-- the chains of the claims, which begin at named lives
 trail-linked : {h : History} {a : Life} → Trail h a → Linked h (Named h) a
 trail-linked (from a q) = begins a q
-trail-linked (onward a b t j) = Linked.onward a b (trail-linked t) j
+trail-linked (onward a b t j) = further a b (trail-linked t) j
 
 linked-trail : {h : History} {a : Life} → Linked h (Named h) a → Trail h a
 linked-trail (begins a q) = from a q
-linked-trail (Linked.onward a b t j) = onward a b (linked-trail t) j
+linked-trail (further a b t j) = onward a b (linked-trail t) j
 
 -- where all is counted, the trail is exact
 pub counted-trail : {size : Size} (k : Counting) (b : Item) (m : MemoryOf size) (is : List Item) → Begins m b → AllCounted k is (begun b m)
