@@ -1,21 +1,21 @@
--- A thing x goes, and what fed it feeds what it fed: paths past it stay (A, B), and bridging makes none (C).
+-- A thing goes, and what fed it feeds what it fed: paths past it stay (A, B), and bridging makes none that was not there (C).
 -- Assumes nothing.
 use mathlib.Core.Path.{_≡_, refl, sym, ap, subst, _∙_}
-use mathlib.Core.Bool.{Bool, true, false, not, _&&_, _||_, and-eq-true-iff, true≢false}
+use mathlib.Core.Bool.{true, false, not, _&&_, _||_, and-eq-true-iff, true≢false}
 use mathlib.Core.Logic.{_⊎_, inl, inr, ⊎-elim}
-use mathlib.Core.List.{[], _∷_}
 use Prim.Native.Nat.{ℕ, _<_}
 use lib.Dec.{eqb}
 use borrow.Author.Tests.{eqb-true, eqb-false, eq-eqb, ne-eqb, not-true}
-use Rattle.bits.specs.AllLaws.{either, or-cases, or-l, or-r, and-i}
-use Rattle.records.specs.Records.{Size, numbersOf}
+use Rattle.bits.specs.AllLaws.{or-cases, or-l, or-r, and-i}
+use Rattle.rows.specs.Size.{Size, numbersOf}
 use Rattle.model.specs.State.{MemoryOf, inUse, task, object, driverOf, marked, hasFlow}
 use Rattle.model.specs.StateLaws.{object-used, object-task, used-below}
-use Rattle.model.specs.Effects.{flow-if, bridge, clear, objectOf, feeds, fedBy, effect, effects}
+use Rattle.model.specs.Effects.{bridge, clear, objectOf, feeder, fedBy, effect}
 use Rattle.model.specs.EffectLaws.{Long, effect-long, flow-after, inUse-after, object-after, driver-after, marked-after}
+use Rattle.containment.specs.Changes.{is-number}
 use Rattle.containment.specs.Reach.{Reach, at, along, down, Path, Fed, reach-used, reach-below}
 
--- n is m without x, the feeders of x joined to what it fed
+-- n is m without x, and what fed x, or drove it, feeds what it fed
 pub record Bypasses {size : Size} (m n : MemoryOf size) (x : ℕ) : Type 0 where
   pub gone : inUse n x ≡ false
   pub used : (y : ℕ) → (y ≡ x → ⊥) → inUse n y ≡ inUse m y
@@ -23,44 +23,48 @@ pub record Bypasses {size : Size} (m n : MemoryOf size) (x : ℕ) : Type 0 where
   pub drivers : (y : ℕ) → (y ≡ x → ⊥) → driverOf n y ≡ driverOf m y
   pub marks : (y : ℕ) → (y ≡ x → ⊥) → marked n y ≡ marked m y
   pub flows : (u v : ℕ) → u < numbersOf size → v < numbersOf size → (u ≡ x → ⊥) → (v ≡ x → ⊥) → hasFlow m u v ≡ true → hasFlow n u v ≡ true
-  pub bridges : (p q : ℕ) → p < numbersOf size → q < numbersOf size → feeds m x p ≡ true → fedBy m x q ≡ true → (q ≡ p → ⊥) → hasFlow n p q ≡ true
+  pub bridges : (p q : ℕ) → p < numbersOf size → q < numbersOf size → feeder m x p ≡ true → fedBy m x q ≡ true → (q ≡ p → ⊥) → hasFlow n p q ≡ true
   -- x drives nothing
   pub drives-none : (y : ℕ) → object m y ≡ true → driverOf m y ≡ x → ⊥
 
-pub is-number : (x p : ℕ) → (x ≡ p) ⊎ (x ≡ p → ⊥)
-is-number x p = ⊎-elim (λ e. inl (eqb-true x p e)) (λ e. inr (eqb-false x p e)) (either (eqb x p))
-
 module _ {size : Size} (m n : MemoryOf size) (x : ℕ) (b : Bypasses m n x) where
+  -- what is in use afterwards is not x
   pub not-gone : (y : ℕ) → inUse n y ≡ true → y ≡ x → ⊥
   not-gone y u e = true≢false (sym u ∙ ap (inUse n) e ∙ b .gone)
 
-  feeds-flow : (p : ℕ) → inUse m p ≡ true → (p ≡ x → ⊥) → hasFlow m p x ≡ true → feeds m x p ≡ true
-  unfolding feeds
-  feeds-flow p u e f = and-i (and-i u (rw (ne-eqb p x e))) (or-l (hasFlow m p x) _ f)
+  -- a step to x comes from a feeder
+  by-flow : (p : ℕ) → inUse m p ≡ true → (p ≡ x → ⊥) → hasFlow m p x ≡ true → feeder m x p ≡ true
+  unfolding feeder
+  by-flow p u e f = and-i (and-i u (rw (ne-eqb p x e))) (or-l (hasFlow m p x) _ f)
 
-  feeds-driver : (p : ℕ) → inUse m p ≡ true → (p ≡ x → ⊥) → object m x ≡ true → driverOf m x ≡ p → feeds m x p ≡ true
-  unfolding feeds objectOf
-  feeds-driver p u e o d = and-i (and-i u (rw (ne-eqb p x e))) (or-r (hasFlow m p x) _ (and-i o (eq-eqb _ _ d)))
+  by-driver : (p : ℕ) → inUse m p ≡ true → (p ≡ x → ⊥) → object m x ≡ true → driverOf m x ≡ p → feeder m x p ≡ true
+  unfolding feeder objectOf
+  by-driver p u e o d = and-i (and-i u (rw (ne-eqb p x e))) (or-r (hasFlow m p x) _ (and-i o (eq-eqb _ _ d)))
 
+  -- and one from x goes to what it fed
   fed-flow : (q : ℕ) → inUse m q ≡ true → (q ≡ x → ⊥) → hasFlow m x q ≡ true → fedBy m x q ≡ true
   unfolding fedBy
   fed-flow q u e f = and-i (and-i u (rw (ne-eqb q x e))) f
 
-  -- from S in m to T in n: what is in S stays in T, and if x was in S then what it fed is in T
+  -- what is in S stays in T, and if x was in S then what it fed is in T
   module _ (S T : ℕ → Type 0) (stay : (z : ℕ) → (z ≡ x → ⊥) → S z → T z) (hand : S x → (q : ℕ) → fedBy m x q ≡ true → (q ≡ x → ⊥) → T q) where
     -- what stands for a path that ends at x: one to a feeder, or x itself was in S
     abbrev Before : Type 0
-    Before = ((p : ℕ) × (feeds m x p ≡ true) × Reach n T p) ⊎ S x
+    Before = ((p : ℕ) × (feeder m x p ≡ true) × Reach n T p) ⊎ S x
 
+    -- what stands for a path to y
     abbrev Past : ℕ → Type 0
     Past y = ((y ≡ x) × Before) ⊎ ((y ≡ x → ⊥) × Reach n T y)
 
+    -- a path is followed step by step
     past : {y : ℕ} → Reach m S y → Past y
     past (at y l u s) = ⊎-elim (λ (e : y ≡ x). inl (e, inr (subst S e s))) (λ (e : y ≡ x → ⊥). inr (e, at y l (b .used y e ∙ u) (stay y e s))) (is-number y x)
     past (along z y r l u f) = ⊎-elim (enters (past r)) (goes (past r)) (is-number y x)
       where
         enters : Past z → y ≡ x → Past y
-        enters so e = ⊎-elim (λ (q : (z ≡ x) × Before). inl (e, q .1)) (λ (q : (z ≡ x → ⊥) × Reach n T z). inl (e, inl (z, feeds-flow z (reach-used r) (q .0) (subst (λ (k : ℕ). hasFlow m z k ≡ true) e f), q .1))) so
+        enters so e =
+            ⊎-elim (λ (q : (z ≡ x) × Before). inl (e, q .1))
+            (λ (q : (z ≡ x → ⊥) × Reach n T z). inl (e, inl (z, by-flow z (reach-used r) (q .0) (subst (λ (k : ℕ). hasFlow m z k ≡ true) e f), q .1))) so
 
         leaves : (y ≡ x → ⊥) → hasFlow m x y ≡ true → Before → Reach n T y
         leaves e g (inl p) =
@@ -81,9 +85,10 @@ module _ {size : Size} (m n : MemoryOf size) (x : ℕ) (b : Bypasses m n x) wher
       where
         from : (z ≡ x → ⊥) × Reach n T z → Past y
         from q =
-            ⊎-elim (λ (e : y ≡ x). inl (e, inl (z, feeds-driver z (reach-used r) (q .0) (subst (λ (k : ℕ). object m k ≡ true) e o) (subst (λ (k : ℕ). driverOf m k ≡ z) e d), q .1)))
+            ⊎-elim (λ (e : y ≡ x). inl (e, inl (z, by-driver z (reach-used r) (q .0) (subst (λ (k : ℕ). object m k ≡ true) e o) (subst (λ (k : ℕ). driverOf m k ≡ z) e d), q .1)))
             (λ (e : y ≡ x → ⊥). inr (e, down z y (q .1) l (b .objects y e ∙ o) (b .drivers y e ∙ d))) (is-number y x)
 
+    -- what stays and was reached from S is reached from T
     pub reach-past : (y : ℕ) → inUse n y ≡ true → Reach m S y → Reach n T y
     reach-past y u r = ⊎-elim (λ (q : (y ≡ x) × Before). absurd (not-gone y u (q .0))) (λ (q : (y ≡ x → ⊥) × Reach n T y). q .1) (past r)
 
@@ -111,14 +116,16 @@ module _ {size : Size} (m : MemoryOf size) (long : Long m) (x : ℕ) (o : object
   long′ : Long between
   long′ = effect-long (bridge x) long
 
-  kept-flow : (u v : ℕ) → u < numbersOf size → v < numbersOf size → (u ≡ x → ⊥) → (v ≡ x → ⊥) → (hasFlow m u v || (feeds m x u && (fedBy m x v && not (eqb v u)))) ≡ true → hasFlow cleared u v ≡ true
+  -- a flow that was there or is bridged, and is not x's, is there afterwards
+  kept-flow : (u v : ℕ) → u < numbersOf size → v < numbersOf size → (u ≡ x → ⊥) → (v ≡ x → ⊥) → (hasFlow m u v || (feeder m x u && (fedBy m x v && not (eqb v u)))) ≡ true → hasFlow cleared u v ≡ true
   kept-flow u v lu lv eu ev h =
       flow-after u v lu lv (clear x) between long′ below
       ∙ and-i (and-i (flow-after u v lu lv (bridge x) m long tt ∙ h) (rw (ne-eqb u x eu))) (rw (ne-eqb v x ev))
 
-  feeds-not : (p : ℕ) → feeds m x p ≡ true → p ≡ x → ⊥
-  unfolding feeds
-  feeds-not p h = let t = simp and-eq-true-iff at h in eqb-false p x (not-true (eqb p x) (t .0 .1))
+  -- x neither feeds itself nor is fed by itself
+  feeder-not : (p : ℕ) → feeder m x p ≡ true → p ≡ x → ⊥
+  unfolding feeder
+  feeder-not p h = let t = simp and-eq-true-iff at h in eqb-false p x (not-true (eqb p x) (t .0 .1))
 
   fed-not : (q : ℕ) → fedBy m x q ≡ true → q ≡ x → ⊥
   unfolding fedBy
@@ -134,14 +141,16 @@ module _ {size : Size} (m : MemoryOf size) (long : Long m) (x : ℕ) (o : object
         marks = λ y e. marked-after y (clear x) between long′ (below, tt) ∙ rw (ne-eqb y x e) (marked-after y (bridge x) m long (tt, tt));
         flows = λ u v lu lv eu ev h. kept-flow u v lu lv eu ev (or-l (hasFlow m u v) _ h);
         bridges = λ p q lp lq fp fq e.
-            kept-flow p q lp lq (feeds-not p fp) (fed-not q fq) (or-r (hasFlow m p q) _ (and-i fp (and-i fq (rw (ne-eqb q p e)))));
+            kept-flow p q lp lq (feeder-not p fp) (fed-not q fq) (or-r (hasFlow m p q) _ (and-i fp (and-i fq (rw (ne-eqb q p e)))));
         drives-none = λ y h d. true≢false (sym (drivers y h) ∙ ap (task m) d ∙ object-task m x o);
       }
 
--- C: bridging makes no path that was not there
+-- ---- bridging past a thing in use
+
 module _ {size : Size} (m : MemoryOf size) (long : Long m) (x : ℕ) (u : inUse m x ≡ true) (S : ℕ → Type 0) where
-  through : (z y : ℕ) → y < numbersOf size → Reach m S z → (feeds m x z && (fedBy m x y && not (eqb y z))) ≡ true → Reach m S y
-  unfolding feeds fedBy objectOf
+  -- what is bridged went through x
+  through : (z y : ℕ) → y < numbersOf size → Reach m S z → (feeder m x z && (fedBy m x y && not (eqb y z))) ≡ true → Reach m S y
+  unfolding feeder fedBy objectOf
   through z y l r h =
       let t = simp and-eq-true-iff at h in
       along x y (into (or-cases (hasFlow m z x) (object m x && eqb (driverOf m x) z) (t .0 .1))) l (t .1 .0 .0 .0) (t .1 .0 .1)
@@ -153,20 +162,11 @@ module _ {size : Size} (m : MemoryOf size) (long : Long m) (x : ℕ) (u : inUse 
       into (inl f) = along z x r lx u f
       into (inr d) = let t = simp and-eq-true-iff at d in down z x r lx (t .0) (eqb-true (driverOf m x) z (t .1))
 
+  -- C: bridging makes no path that was not there
   pub bridge-adds-none : {y : ℕ} → Reach (effect (bridge x) m) S y → Reach m S y
   unfolding effect inUse object
   bridge-adds-none (at y l v s) = at y l v s
   bridge-adds-none (down z y r l o d) = down z y (bridge-adds-none r) l o d
   bridge-adds-none (along z y r l v f) =
       ⊎-elim (λ h. along z y (bridge-adds-none r) l v h) (through z y l (bridge-adds-none r))
-      (or-cases (hasFlow m z y) (feeds m x z && (fedBy m x y && not (eqb y z))) (sym (flow-after z y (reach-below r) l (bridge x) m long tt) ∙ f))
-
--- ---- the flows that a deletion leaves, as the request has them: what was there or is bridged, without x, and the asker's to a marked driver
-pub delete-flow : {size : Size} (m : MemoryOf size) → Long m → (x e d : ℕ) (b : Bool) → x < numbersOf size → (e < numbersOf size) × (d < numbersOf size) → (u v : ℕ) → u < numbersOf size → v < numbersOf size
-    → hasFlow (effects (bridge x ∷ clear x ∷ flow-if b e d ∷ []) m) u v
-    ≡ (((hasFlow m u v || (feeds m x u && (fedBy m x v && not (eqb v u)))) && not (eqb u x) && not (eqb v x)) || (b && (eqb u e && eqb v d)))
-unfolding effects
-delete-flow m long x e d b lx l u v lu lv =
-    flow-after u v lu lv (flow-if b e d) _ (effect-long (clear x) (effect-long (bridge x) long)) l
-    ∙ ap (λ (f : Bool). f || (b && (eqb u e && eqb v d)))
-    (flow-after u v lu lv (clear x) _ (effect-long (bridge x) long) lx ∙ ap (λ (f : Bool). f && not (eqb u x) && not (eqb v x)) (flow-after u v lu lv (bridge x) m long tt))
+      (or-cases (hasFlow m z y) (feeder m x z && (fedBy m x y && not (eqb y z))) (sym (flow-after z y (reach-below r) l (bridge x) m long tt) ∙ f))

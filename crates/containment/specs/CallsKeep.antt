@@ -110,7 +110,8 @@ task-self : {size : Size} (s : StandingOf size) → Invariant s → (e : ℕ) �
 unfolding task isTask
 task-self {size} s i e t = is-order (s .order) (i .passes) .self _ (task-facts size (s .order) (s .memory .bytes) (i .is-sound) e (eqb-true _ 1 t) .level-in)
 
-abbrev NoStart : Role → Type 0
+-- a call of that role is no start
+abbrev pub NoStart : Role → Type 0
 NoStart starting = ⊥
 NoStart (marking e) = Unit {0}
 NoStart other = Unit {0}

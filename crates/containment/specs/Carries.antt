@@ -1,27 +1,65 @@
--- One call other than a start, on every sound memory: paths and what marks reach stay, and marks come along paths.
+-- What has to stay over one call other than a start: paths (A), what marks reach (B), and that marks come along paths. Effects that clear nothing only add.
 -- Assumes nothing.
 use mathlib.Core.Path.{_≡_, refl, sym, ap, _∙_}
 use mathlib.Core.Bool.{true, false, not, true≢false, false≢true}
-use mathlib.Core.Logic.{_⊎_, inl, inr, ⊎-elim}
-use mathlib.Core.List.{List}
+use mathlib.Core.Logic.{_⊎_, inl, inr}
+use mathlib.Core.List.{List, [], _∷_}
 use Prim.Native.Nat.{ℕ, _<_}
 use native.Mathlib.Omega.{arith}
-use lib.Dec.{eqb}
-use borrow.Author.Tests.{eqb-true, eqb-false, ne-eqb}
-use Rattle.bits.specs.AllLaws.{either, or-l, not-so}
+use borrow.Author.Tests.{eqb-true, ne-eqb}
+use Rattle.bits.specs.AllLaws.{or-l, not-so}
 use Rattle.rows.specs.RowLaws.{add-kept, bridged-kept}
+use Rattle.rows.specs.Size.{Size, rowSizeOf, numbersOf}
 use Rattle.levels.specs.declared.Order.{Order}
-use Rattle.records.specs.Records.{Size, rowSizeOf, numbersOf, field, isObject, soundOf}
+use Rattle.records.specs.Records.{field, isObject, soundOf}
 use Rattle.records.specs.RecordLaws.{field-else, free-fields}
 use Rattle.model.specs.State.{MemoryOf, inUse, task, object, marked, hasFlow}
 use Rattle.model.specs.StateLaws.{task-used, object-used, used-below}
-use Rattle.model.specs.Effects.{Effect, flow, flow-if, read-access, write-access, make-task, make-object, move-to, bridge, clear, mark-outside, mark-thing, feeds, fedBy, withWords, effect, effects}
+use Rattle.model.specs.Effects.{Effect, flow, flow-if, read-access, write-access, make-task, make-object, move-to, bridge, clear, mark-outside, mark-thing, feeder, fedBy, withWords, effect, effects}
 use Rattle.model.specs.MarkLaws.{where-words, where-field}
-use Rattle.model.specs.EffectLaws.{Long, byte-after, marked-after, outside-marked, thing-marked}
-use Rattle.containment.specs.Reach.{at, along, Grows}
+use Rattle.model.specs.EffectLaws.{Long, effect-long, effects-long, byte-after, marked-after, outside-marked, thing-marked}
+use Rattle.containment.specs.Reach.{Reach, at, Path, Fed, Grows, grows-none, grows-then, reach-grows}
 
-is-number : (x p : ℕ) → (x ≡ p) ⊎ (x ≡ p → ⊥)
-is-number x p = ⊎-elim (λ e. inl (eqb-true x p e)) (λ e. inr (eqb-false x p e)) (either (eqb x p))
+-- ---- from m to n, where the call names the tasks in E
+
+-- what was marked before it, or is named by it
+abbrev pub Source : {size : Size} → MemoryOf size → (ℕ → Type 0) → ℕ → Type 0
+Source m E y = ((inUse m y ≡ true) × (marked m y ≡ true)) ⊎ E y
+
+-- what is marked after it is in reach of these
+abbrev pub Origin : {size : Size} → MemoryOf size → MemoryOf size → (ℕ → Type 0) → Type 0
+Origin m n E = (x : ℕ) → inUse n x ≡ true → marked n x ≡ true → Reach n (Source m E) x
+
+-- what it names is in use and marked after it
+abbrev pub Naming : {size : Size} → MemoryOf size → (ℕ → Type 0) → Type 0
+Naming n E = (y : ℕ) → E y → (inUse n y ≡ true) × (marked n y ≡ true)
+
+pub record Carries {size : Size} (m n : MemoryOf size) (E : ℕ → Type 0) : Type 0 where
+  -- A: a path between two things that live before and after is there after
+  pub paths : (x y : ℕ) → inUse n x ≡ true → inUse n y ≡ true → Path m x y → Path n x y
+  -- B: what lives before and after and is in reach of a marked thing stays in reach of one
+  pub feds : (y : ℕ) → inUse n y ≡ true → Fed m y → Fed n y
+  pub origin : Origin m n E
+  pub naming : Naming n E
+
+-- it names nobody
+abbrev pub Nobody : ℕ → Type 0
+Nobody y = ⊥
+
+-- where nothing is marked that was not
+pub same-origin : {size : Size} (m n : MemoryOf size) (E : ℕ → Type 0) → Long n
+    → ((x : ℕ) → inUse n x ≡ true → marked n x ≡ true → (inUse m x ≡ true) × (marked m x ≡ true)) → Origin m n E
+same-origin m n E l h x u k = at x (used-below n x (l .bytes-long) u) u (inl (h x u k))
+
+-- what only adds keeps paths
+pub grows-carries : {size : Size} (m n : MemoryOf size) (E : ℕ → Type 0) → Grows m n → Origin m n E → Naming n E → Carries m n E
+grows-carries m n E g origin naming =
+    record {
+      paths = λ x y ux uy r. reach-grows (λ z. x ≡ z) (λ z. x ≡ z) g (λ z u e. e) r;
+      feds = λ y uy r. reach-grows (λ z. marked m z ≡ true) (λ z. marked n z ≡ true) g (g .marks) r;
+      origin = origin;
+      naming = naming;
+    }
 
 -- in sound bytes a free number has no mark
 pub marked-used : {size : Size} (o : Order) (m : MemoryOf size) → soundOf size o (m .bytes) ≡ true → (x : ℕ) → marked m x ≡ true → inUse m x ≡ true
@@ -30,7 +68,7 @@ marked-used {size} o m ok x e = ap not (not-so _ (λ z. false≢true (rw (free-f
 
 -- ---- effects that only add
 
--- what an effect has to keep to: it clears nothing, and what it makes was free
+-- it clears nothing, and what it makes was free
 abbrev pub Quiet : {size : Size} → MemoryOf size → Effect → Type 0
 Quiet m (flow x y) = Unit {0}
 Quiet m (flow-if b x y) = Unit {0}
@@ -44,14 +82,17 @@ Quiet m (clear x) = ⊥
 Quiet m (mark-outside e) = task m e ≡ true
 Quiet m (mark-thing x) = Unit {0}
 
+-- the same byte, the same mark
 same-marked : {size : Size} (m n : MemoryOf size) (x : ℕ) → field (n .bytes) x 5 ≡ field (m .bytes) x 5 → marked n x ≡ marked m x
 unfolding marked
 same-marked m n x e = rw e
 
+-- words change, and no flow goes
 words-grow : {size : Size} (m : MemoryOf size) (ws : List ℕ) → ((x y : ℕ) → hasFlow m x y ≡ true → hasFlow (withWords m ws) x y ≡ true) → Grows m (withWords m ws)
 unfolding inUse object isObject marked
 words-grow m ws f = record { used = λ x h. h; objects = λ x h. (h, refl); flows = f; marks = λ x u h. h }
 
+-- bytes change, and what is in use keeps its kind, its driver and its mark
 bytes-grow : {size : Size} (m n : MemoryOf size) → n .words ≡ m .words
     → ((x f : ℕ) → f < 4 → inUse m x ≡ true → field (n .bytes) x f ≡ field (m .bytes) x f)
     → ((x : ℕ) → inUse m x ≡ true → marked m x ≡ true → marked n x ≡ true) → Grows m n
@@ -68,10 +109,12 @@ module _ {size : Size} (m : MemoryOf size) (long : Long m) where
   below : (x : ℕ) → inUse m x ≡ true → x < numbersOf size
   below x = used-below m x (long .bytes-long)
 
+  -- what is in use is not what is free
   apart : (x n : ℕ) → inUse m n ≡ false → inUse m x ≡ true → x ≡ n → ⊥
   apart x n free u d = true≢false (sym u ∙ ap (inUse m) d ∙ free)
 
-  pub effect-grows : (e : Effect) → Quiet m e → Grows m (effect e m)
+  -- an effect that clears nothing only adds
+  effect-grows : (e : Effect) → Quiet m e → Grows m (effect e m)
   unfolding effect hasFlow
   effect-grows (flow x y) q = words-grow m _ (λ u v h. add-kept (rowSizeOf size) (m .words) x y u v h)
   effect-grows (flow-if true x y) q = words-grow m _ (λ u v h. add-kept (rowSizeOf size) (m .words) x y u v h)
@@ -92,7 +135,7 @@ module _ {size : Size} (m : MemoryOf size) (long : Long m) where
     where
       moved : (x : ℕ) → field (effect (move-to y c) m .bytes) x 5 ≡ field (m .bytes) x 5 → marked m x ≡ true → marked (effect (move-to y c) m) x ≡ true
       moved x e h = same-marked m (effect (move-to y c) m) x e ∙ h
-  effect-grows (bridge x) q = words-grow m _ (λ u v h. bridged-kept (rowSizeOf size) (numbersOf size) (feeds m x) (fedBy m x) (m .words) u v h)
+  effect-grows (bridge x) q = words-grow m _ (λ u v h. bridged-kept (rowSizeOf size) (numbersOf size) (feeder m x) (fedBy m x) (m .words) u v h)
   effect-grows (clear x) q = absurd q
   effect-grows (mark-outside e) q =
       bytes-grow m _ (where-words _ _)
@@ -100,3 +143,20 @@ module _ {size : Size} (m : MemoryOf size) (long : Long m) where
       (λ x u h. outside-marked x m long (below x u) e (below e (task-used m e q)) ∙ or-l (marked m x) _ h)
   effect-grows (mark-thing y) q =
       bytes-grow m _ (where-words _ m) (λ x f lf u. where-field _ m x f (omega arith) (omega arith)) (λ x u h. thing-marked x m long (below x u) y ∙ or-l (marked m x) _ h)
+
+-- ---- lists of them
+
+abbrev pub AllQuiet : {size : Size} → MemoryOf size → List Effect → Type 0
+AllQuiet m [] = Unit {0}
+AllQuiet m (e ∷ es) = Quiet m e × AllQuiet (effect e m) es
+
+pub effects-grow : {size : Size} (m : MemoryOf size) → Long m → (es : List Effect) → AllQuiet m es → Grows m (effects es m)
+unfolding effects
+effects-grow m l [] q = grows-none m
+effects-grow m l (e ∷ es) q = grows-then (effect-grows m l e (q .0)) (effects-grow (effect e m) (effect-long e l) es (q .1))
+
+-- where they mark nothing
+pub quiet-carries : {size : Size} (m : MemoryOf size) → Long m → (es : List Effect) → AllQuiet m es
+    → ((x : ℕ) → inUse (effects es m) x ≡ true → marked (effects es m) x ≡ true → (inUse m x ≡ true) × (marked m x ≡ true)) → Carries m (effects es m) Nobody
+quiet-carries m long es q h =
+    grows-carries m (effects es m) Nobody (effects-grow m long es q) (same-origin m (effects es m) Nobody (effects-long es long) h) (λ y e. absurd e)

@@ -30,7 +30,8 @@ fits-same : {size : Size} (m n : MemoryOf size) → length (n .bytes) ≡ length
 unfolding lengthsFit
 fits-same m n b w h = rw (b, w) h
 
-is-number : (x p : ℕ) → (x ≡ p) ⊎ (x ≡ p → ⊥)
+-- a number is another or not
+pub is-number : (x p : ℕ) → (x ≡ p) ⊎ (x ≡ p → ⊥)
 is-number x p = ⊎-elim (λ e. inl (eqb-true x p e)) (λ e. inr (eqb-false x p e)) (either (eqb x p))
 
 -- ---- words

@@ -22,7 +22,8 @@ use Rattle.containment.specs.LayoutCalls.{layout-goes, goes-leaves}
 
 -- ---- what begins a list
 
-load-keeps : {size : Size} (o : Order) (m : MemoryOf size) (t : List ℕ) → pastOrder (load o m t .verdict) ≡ true → Invariant (standing o (load o m t .memory) [])
+-- so does a load past row 3
+pub load-keeps : {size : Size} (o : Order) (m : MemoryOf size) (t : List ℕ) → pastOrder (load o m t .verdict) ≡ true → Invariant (standing o (load o m t .memory) [])
 load-keeps {size} o m t h =
     let d = load-past o m t h in
     let i = started-keeps size o (d .1) in
@@ -35,7 +36,7 @@ begun-keeps {m = m} (by-load o t h) = load-keeps o m t h
 
 -- ---- every item, and every list
 
-next-keeps : {size : Size} (x : Item) (s : StandingOf size) → Invariant s → Admitted x s → Invariant (next x s)
+pub next-keeps : {size : Size} (x : Item) (s : StandingOf size) → Invariant s → Admitted x s → Invariant (next x s)
 unfolding next entered
 next-keeps (asks o c) s i a =
     ⊎-elim (λ h. rw h (call-keeps s i o c a h)) (λ h. rw h (rw (refused-keeps o (s .memory) c h) i))

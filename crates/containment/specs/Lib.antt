@@ -2,6 +2,8 @@ pub mod Lists
 pub mod Chains
 pub mod TallyLists
 pub mod Claims
+pub mod History
+pub mod TrailClaims
 pub mod TallyClaims
 pub mod Roots
 pub mod Tables
@@ -19,4 +21,11 @@ pub mod PlaceProof
 pub mod Witness
 pub mod LoadProof
 pub mod TallyProof
+pub mod Reach
+pub mod Bypass
+pub mod Carries
+pub mod OneCall
+pub mod Joins
+pub mod Trails
+pub mod Direct
 pub mod Proved

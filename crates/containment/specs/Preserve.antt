@@ -17,15 +17,15 @@ use Rattle.levels.specs.Order.{atOrBelow}
 use Rattle.levels.specs.OrderLaws.{IsOrder}
 use Rattle.records.specs.Records as records
 use Rattle.records.specs.Records.{field, Place}
-use Rattle.model.specs.State.{MemoryOf, inUse, task, object, levelOf, driverOf, marked}
+use Rattle.model.specs.State.{MemoryOf, inUse, task, object, levelOf, driverOf, marked, hasFlow}
 use Rattle.model.specs.StateLaws.{task-used, object-used, object-task, outside-mark, used-below}
-use Rattle.model.specs.Effects.{Effect, flow, flow-if, read-access, write-access, make-task, make-object, move-to, clear, mark-outside, mark-thing, objectOf, withWords, effect, effects}
+use Rattle.model.specs.Effects.{Effect, flow, flow-if, read-access, write-access, make-task, make-object, move-to, bridge, clear, mark-outside, mark-thing, objectOf, feeder, fedBy, withWords, effect, effects}
 use Rattle.model.specs.MarkLaws.{where-words, where-field, where-kept}
-use Rattle.model.specs.EffectLaws.{Long, fit-long, long-fits, effect-long, effect-bytes, byte-after, inUse-after, object-after, level-after, driver-after, marks-after, marked-after, outside-marks, outside-marked, thing-marked}
+use Rattle.model.specs.EffectLaws.{Long, fit-long, long-fits, effect-long, effect-bytes, effect-words, byte-after, inUse-after, object-after, level-after, driver-after, marks-after, marked-after, outside-marks, outside-marked, thing-marked}
 use Rattle.containment.specs.Lists.{StandingOf}
 use Rattle.containment.specs.Claims.{Covered}
-use Rattle.containment.specs.Tables.{Table, flows, reads, writes, row, has, has-added, has-clear}
-use Rattle.containment.specs.Invariant.{standing, Bounded, May, may-join, Limits, joins, covered-below}
+use Rattle.containment.specs.Tables.{Table, flows, reads, writes, row, has, has-added, has-bridged, has-clear}
+use Rattle.containment.specs.Invariant.{standing, Ends, Bounded, MayFlow, May, may-join, Limits, joins, covered-below, ends-trans}
 use Rattle.containment.specs.Follows.{Same, Follows, same-task, covered-follows}
 use Rattle.containment.specs.Changes.{words-limits, one-follows, one-limits, marks-follow, marks-limits}
 
@@ -50,6 +50,7 @@ module _ {size : Size} where
   Allowed s (make-task n l r) = (n < numbersOf size) × (inUse (s .memory) n ≡ false)
   Allowed s (make-object n l d p b) = MayMake s n l d b
   Allowed s (move-to x c) = object (s .memory) x ≡ true
+  Allowed s (bridge x) = inUse (s .memory) x ≡ true
   Allowed s (clear x) = object (s .memory) x ≡ true
   Allowed s (mark-outside e) = ⊥
   Allowed s (mark-thing x) = Covered s (levelOf (s .memory) x)
@@ -89,6 +90,29 @@ module _ {size : Size} (s : StandingOf size) (ok : IsOrder (s .order)) (k : Limi
       words-limits s _ k (length-add (rowSizeOf size) (m .words) (row size t x) y)
       (λ i v w lv lw h. ⊎-elim (λ e. inl e) (λ (e : (i ≡ t) × (v ≡ x) × (w ≡ y)). inr (rw (e .0, e .1, e .2) a))
       (has-added m long v w lv lw x y (below x (u .0)) (below y (u .1)) i t h))
+
+  -- ---- what feeds x, and its driver, goes on to what x feeds: through x, so within the limits
+
+  bridge-keeps : (x : ℕ) → inUse m x ≡ true → Limits (after s (bridge x))
+  unfolding effect feeder fedBy objectOf hasFlow
+  bridge-keeps x a =
+      words-limits s _ k (effect-words (bridge x) m)
+      (λ t u v lu lv h. ⊎-elim (λ e. inl e) (λ (e : (t ≡ flows) × (feeder m x u ≡ true) × (fedBy m x v ≡ true)). inr (rw (e .0) (through u v lu lv (e .1) (e .2))))
+      (has-bridged m long u v lu lv x t h))
+    where
+      into : (u : ℕ) → u < numbersOf size → (has flows m u x || (object m x && eqb (driverOf m x) u)) ≡ true → Ends s u x
+      into u lu h =
+          ⊎-elim (λ f. k .recorded flows u x lu (below x a) f .2)
+          (λ (f : (object m x && eqb (driverOf m x) u) ≡ true).
+          let d = simp and-eq-true-iff at f in
+          inl (rw (sym (eqb-true (driverOf m x) u (d .1))) (k .bounded x (below x a) .driver-above (d .0))))
+          (or-cases (has flows m u x) (object m x && eqb (driverOf m x) u) h)
+
+      through : (u v : ℕ) → u < numbersOf size → v < numbersOf size → feeder m x u ≡ true → fedBy m x v ≡ true → MayFlow s u v
+      through u v lu lv p q =
+          let d = simp and-eq-true-iff at p in
+          let e = simp and-eq-true-iff at q in
+          (d .0 .0, e .0 .0, ends-trans s ok u x v (into u lu (d .1)) (k .recorded flows x v (below x a) lv (e .1) .2))
 
   -- ---- a free number becomes a task or an object
 
@@ -307,6 +331,7 @@ module _ {size : Size} (s : StandingOf size) (ok : IsOrder (s .order)) (k : Limi
   effect-keeps (make-task n l r) a = task-keeps n l r (a .0) (a .1)
   effect-keeps (make-object n l d p b) a = object-keeps n l d p b a
   effect-keeps (move-to x c) a = move-keeps x a c
+  effect-keeps (bridge x) a = bridge-keeps x a
   effect-keeps (clear x) a = clear-keeps x a
   effect-keeps (mark-outside e) a = absurd a
   effect-keeps (mark-thing x) a = thing-keeps x a

@@ -38,6 +38,8 @@ use Rattle.containment.specs.Invariant.{standing, Joined, Limits, joins,
 use Rattle.containment.specs.ItemsKeep.{begun-keeps, run-keeps}
 use Rattle.containment.specs.Witness.{upward, upward-granted, upward-marks, none-leaves}
 pub use Rattle.containment.specs.SpreadProof.{spread-exact}
+pub use Rattle.containment.specs.Trails.{trail-exact}
+pub use Rattle.containment.specs.Direct.{trail-direct}
 pub use Rattle.containment.specs.PlaceProof.{inside-exact, move-place}
 pub use Rattle.containment.specs.LoadProof.{layout-gives, load-gives, loads-sound, refused-load, untouched-by-load, load-is-list, load-tells, load-rows}
 pub use Rattle.containment.specs.TallyProof.{another-length, never-tested, refusal-keeps, refused-load-keeps, others-kept, all-asked, on-asker, on-record-zero, begun-anew, tallies-apart, whole-reached}

@@ -3,25 +3,27 @@
 use mathlib.Core.Path.{_≡_, refl, _∙_}
 use mathlib.Core.Bool.{true}
 use Prim.Native.Nat.{ℕ, _<_}
-use Rattle.records.specs.Records.{Size, numbersOf}
+use Rattle.rows.specs.Size.{Size, numbersOf}
 use Rattle.model.specs.State.{MemoryOf, inUse, object, driverOf, marked, hasFlow}
 use Rattle.model.specs.StateLaws.{object-used}
 use Rattle.containment.specs.Chains.{Chain, first, by-flow, by-driver}
 
--- a path leads to x from a thing in use that is in S
+-- `Reach m S x`: a path of flows and steps from a driver to its object leads to x from a thing in S, over things in use
 pub data Reach {size : Size} (m : MemoryOf size) (S : ℕ → Type 0) : ℕ → Type 0 where
   at : (x : ℕ) → x < numbersOf size → inUse m x ≡ true → S x → Reach m S x
   along : (x y : ℕ) → Reach m S x → y < numbersOf size → inUse m y ≡ true → hasFlow m x y ≡ true → Reach m S y
   down : (x y : ℕ) → Reach m S x → y < numbersOf size → object m y ≡ true → driverOf m y ≡ x → Reach m S y
 
--- from x, and from what is marked
+-- from x
 abbrev pub Path : {size : Size} → MemoryOf size → ℕ → ℕ → Type 0
 Path m x y = Reach m (λ z. x ≡ z) y
 
+-- from what is marked
 abbrev pub Fed : {size : Size} → MemoryOf size → ℕ → Type 0
 Fed m y = Reach m (λ z. marked m z ≡ true) y
 
 module _ {size : Size} {m : MemoryOf size} {S : ℕ → Type 0} where
+  -- what is reached is in use, and one of the numbers
   pub reach-used : {x : ℕ} → Reach m S x → inUse m x ≡ true
   reach-used (at x l u s) = u
   reach-used (along x y r l u f) = u
@@ -32,22 +34,17 @@ module _ {size : Size} {m : MemoryOf size} {S : ℕ → Type 0} where
   reach-below (along x y r l u f) = l
   reach-below (down x y r l o d) = l
 
-  -- from what is reached
-  pub reach-then : {T : ℕ → Type 0} {y : ℕ} → Reach m T y → ((x : ℕ) → T x → Reach m S x) → Reach m S y
-  reach-then (at x l u t) f = f x t
+  -- what is reached from what is reached is reached
+  pub reach-then : {T : ℕ → Type 0} {y : ℕ} → Reach m T y → ((x : ℕ) → inUse m x ≡ true → T x → Reach m S x) → Reach m S y
+  reach-then (at x l u t) f = f x u t
   reach-then (along x y r l u g) f = along x y (reach-then r f) l u g
   reach-then (down x y r l o d) f = down x y (reach-then r f) l o d
 
--- what is marked reaches what chains reach
+-- what a chain of the spread reaches is in reach of what is marked
 pub chain-fed : {size : Size} {m : MemoryOf size} {x : ℕ} → Chain m x → Fed m x
 chain-fed (first x l u e) = at x l u e
 chain-fed (by-flow x y c l u f) = along x y (chain-fed c) l u f
 chain-fed (by-driver x y c l o d) = down x y (chain-fed c) l o d
-
-pub fed-chain : {size : Size} {m : MemoryOf size} {x : ℕ} → Fed m x → Chain m x
-fed-chain (at x l u e) = first x l u e
-fed-chain (along x y c l u f) = by-flow x y (fed-chain c) l u f
-fed-chain (down x y c l o d) = by-driver x y (fed-chain c) l o d
 
 -- ---- what only adds
 
@@ -58,9 +55,11 @@ pub record Grows {size : Size} (m n : MemoryOf size) : Type 0 where
   pub flows : (x y : ℕ) → hasFlow m x y ≡ true → hasFlow n x y ≡ true
   pub marks : (x : ℕ) → inUse m x ≡ true → marked m x ≡ true → marked n x ≡ true
 
+-- nothing changes
 pub grows-none : {size : Size} (m : MemoryOf size) → Grows m m
 grows-none m = record { used = λ x h. h; objects = λ x h. (h, refl); flows = λ x y h. h; marks = λ x u h. h }
 
+-- one change after another
 pub grows-then : {size : Size} {m n v : MemoryOf size} → Grows m n → Grows n v → Grows m v
 grows-then g h =
     record {
@@ -70,6 +69,7 @@ grows-then g h =
       marks = λ x u k. h .marks x (g .used x u) (g .marks x u k);
     }
 
+-- paths stay
 pub reach-grows : {size : Size} {m n : MemoryOf size} (S T : ℕ → Type 0) → Grows m n → ((x : ℕ) → inUse m x ≡ true → S x → T x) → {y : ℕ} → Reach m S y → Reach n T y
 reach-grows S T g f (at x l u s) = at x l (g .used x u) (f x u s)
 reach-grows S T g f (along x y r l u h) = along x y (reach-grows S T g f r) l (g .used y u) (g .flows x y h)

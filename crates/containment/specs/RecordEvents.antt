@@ -12,9 +12,9 @@ use Rattle.levels.specs.declared.Order.{Order}
 use Rattle.levels.specs.Order.{atOrBelow}
 use Rattle.levels.specs.OrderLaws.{IsOrder}
 use Rattle.records.specs.Records.{Place, root, within}
-use Rattle.model.specs.State.{MemoryOf, inUse, task, levelOf, marked}
+use Rattle.model.specs.State.{MemoryOf, inUse, task, object, levelOf, marked}
 use Rattle.model.specs.StateLaws.{task-used, object-used, used-below}
-use Rattle.model.specs.Effects.{Effect, flow-if, make-task, make-object, move-to, clear, effect}
+use Rattle.model.specs.Effects.{Effect, flow-if, make-task, make-object, move-to, bridge, clear, effect}
 use Rattle.model.specs.EffectLaws.{Long, fit-long, inUse-after, level-after}
 use Rattle.model.specs.Events.{execute, create, createRoot, move, delete}
 use Rattle.model.specs.TableLaws.{Holds}

@@ -21,7 +21,7 @@ use Rattle.model.specs.State.{MemoryOf, inUse, object, isRoot, containerOf, lie
 use Rattle.model.specs.StateLaws.{object-used, used-below}
 use Rattle.model.specs.Inside.{Leads, inside}
 use Rattle.model.specs.InsideLaws.{last-step, leads-object, inside-exact}
-use Rattle.model.specs.Effects.{Effect, flow, flow-if, read-access, write-access, make-task, make-object, move-to, clear, mark-outside, mark-thing, effect, effects}
+use Rattle.model.specs.Effects.{Effect, flow, flow-if, read-access, write-access, make-task, make-object, move-to, bridge, clear, mark-outside, mark-thing, effect, effects}
 use Rattle.model.specs.MarkLaws.{where-field}
 use Rattle.model.specs.EffectLaws.{Long, fit-long, effect-long, long-fits}
 use Rattle.model.specs.Spread.{spread}
@@ -88,6 +88,7 @@ changes (write-access e x) z = false
 changes (make-task n l r) z = eqb z n
 changes (make-object n l d p b) z = eqb z n
 changes (move-to x c) z = eqb z x
+changes (bridge x) z = false
 changes (clear x) z = eqb z x
 changes (mark-outside e) z = false
 changes (mark-thing x) z = false
@@ -109,6 +110,7 @@ module _ {size : Size} where
     unchanged (make-task k v r) a x f h l n = record-else (m .bytes) k _ _ _ _ _ _ _ x f (eqb-false x k h) l
     unchanged (make-object k v d p b) a x f h l n = record-else (m .bytes) k _ _ _ _ _ _ _ x f (eqb-false x k h) l
     unchanged (move-to y c) a x f h l n = field-else (m .bytes) y 4 c x f (omega arith) l (inl (eqb-false x y h))
+    unchanged (bridge y) a x f h l n = refl
     unchanged (clear y) a x f h l n = record-else (m .bytes) y _ _ _ _ _ _ _ x f (eqb-false x y h) l
     unchanged (mark-outside e) a x f h l n = where-field _ _ x f l n ∙ field-else (m .bytes) e 5 3 x f (omega arith) l (inr n)
     unchanged (mark-thing y) a x f h l n = where-field _ _ x f l n
@@ -182,6 +184,7 @@ module _ {size : Size} where
       )
       touched (make-object n l v p b) a ok y d = (λ h. rw (eqb-true y n d) (made n l v p b a ok), λ x i c h t. absurd (never-free n (a .1) x i y h t d))
       touched (move-to p q) a ok y d = let e = moved p q a ok in (λ h. rw (eqb-true y p d) e, λ x i c h t. rw (eqb-true y p d) e)
+      touched (bridge p) a ok y d = absurd (false≢true d)
       touched (clear n) a ok y d = (
         λ h. absurd (no-object _ n 0 (record-same (m .bytes) n 0 0 0 0 0 0 0 size (long .bytes-long) (below n (a .0)) .kind-is) refl y d h),
         λ x i c h t. absurd (never-empty n (a .1) x i y c h t d),

@@ -10,7 +10,7 @@ use Rattle.bits.specs.AllLaws.{or-cases}
 use Rattle.rows.specs.Rows.{cell, addCell}
 use Rattle.rows.specs.Size.{Size, rowSizeOf, numbersOf}
 use Rattle.model.specs.State.{MemoryOf, flowRow, readRow, writeRow, hasFlow, hasRead, hasWrite}
-use Rattle.model.specs.Effects.{Effect, flow, read-access, write-access, clear, withWords, effect}
+use Rattle.model.specs.Effects.{Effect, flow, read-access, write-access, bridge, clear, feeder, fedBy, withWords, effect}
 use Rattle.model.specs.EffectLaws.{Long, Fits, cellAfter, flow-after, read-after, write-after}
 
 pub data Table : Type 0 where
@@ -39,7 +39,7 @@ recording reads x y = read-access x y
 recording writes x y = write-access x y
 
 module _ {size : Size} (m : MemoryOf size) (l : Long m) (u v : ℕ) (lu : u < numbersOf size) (lv : v < numbersOf size) where
-  has-after : (e : Effect) → Fits size e → (s : Table) → has s (effect e m) u v ≡ cellAfter (index s) u v e (has s m u v)
+  has-after : (e : Effect) → Fits size e → (s : Table) → has s (effect e m) u v ≡ cellAfter m (index s) u v e (has s m u v)
   unfolding hasFlow hasRead hasWrite index
   has-after e f flows = flow-after u v lu lv e m l f
   has-after e f reads = read-after u v lu lv e m l f
@@ -48,13 +48,22 @@ module _ {size : Size} (m : MemoryOf size) (l : Long m) (u v : ℕ) (lu : u < nu
   pub has-clear : (x : ℕ) → x < numbersOf size → (s : Table) → has s (effect (clear x) m) u v ≡ (has s m u v && not (eqb u x) && not (eqb v x))
   has-clear x lx s = has-after (clear x) lx s
 
+  -- what is recorded after bridging past x was recorded, or is a flow from what feeds x to what x feeds
+  pub has-bridged : (x : ℕ) (s : Table) → has s (effect (bridge x) m) u v ≡ true → (has s m u v ≡ true) ⊎ ((s ≡ flows) × (feeder m x u ≡ true) × (fedBy m x v ≡ true))
+  unfolding index
+  has-bridged x flows h =
+      ⊎-elim (λ e. inl e) (λ e. let d = simp and-eq-true-iff at e in inr (refl, d .0, d .1 .0))
+      (or-cases (has flows m u v) (feeder m x u && (fedBy m x v && not (eqb v u))) (sym (has-after (bridge x) tt flows) ∙ h))
+  has-bridged x reads h = inl (sym (has-after (bridge x) tt reads) ∙ h)
+  has-bridged x writes h = inl (sym (has-after (bridge x) tt writes) ∙ h)
+
   module _ (x y : ℕ) (lx : x < numbersOf size) (ly : y < numbersOf size) where
     here : (s : Table) → (has s m u v || (eqb u x && eqb v y)) ≡ true → (has s m u v ≡ true) ⊎ ((s ≡ s) × (u ≡ x) × (v ≡ y))
     here s h =
         ⊎-elim (λ e. inl e) (λ e. let d = simp and-eq-true-iff at e in inr (refl, eqb-true u x (d .0), eqb-true v y (d .1)))
         (or-cases (has s m u v) (eqb u x && eqb v y) h)
 
-    added : (s t : Table) → cellAfter (index s) u v (recording t x y) (has s m u v) ≡ true → (has s m u v ≡ true) ⊎ ((s ≡ t) × (u ≡ x) × (v ≡ y))
+    added : (s t : Table) → cellAfter m (index s) u v (recording t x y) (has s m u v) ≡ true → (has s m u v ≡ true) ⊎ ((s ≡ t) × (u ≡ x) × (v ≡ y))
     unfolding index
     added flows flows h = here flows h
     added reads reads h = here reads h
