@@ -1,7 +1,7 @@
 -- Laws of sets: those of words and of rows, at the words that a set has.
 -- Assumes nothing.
 use mathlib.Core.Path.{_≡_, refl, sym, ap, ap₂, _∙_}
-use mathlib.Core.Bool.{Bool, true, false, not, _&&_, _||_, and-eq-true-iff}
+use mathlib.Core.Bool.{Bool, true, false, not, _&&_, _||_, true≢false, and-eq-true-iff}
 use mathlib.Core.List.{List, [], _∷_}
 use Prim.Native.Nat.{ℕ, _+_, _-_, _*_, _%_, _^_, _≤_, _<_}
 use native.Mathlib.Nat.{add-zero}
@@ -10,12 +10,12 @@ use lib.Bits.{bitAnd, bitOr, and-lt, or-lt}
 use lib.Dec.{eqb}
 use lib.ListN.{getD, set}
 use lib.Pow.{pow-lt, ones-sub-lt}
-use borrow.Author.Tests.{leb-true, eqb-true, eq-eqb, ne-eqb}
+use borrow.Author.Tests.{leb-true, eqb-true, eq-eqb, ne-eqb, not-true}
 use Rattle.bits.specs.Bit.{bit, wordOf, inWords, wordsOf, wordsBy}
 use Rattle.bits.specs.BitLaws.{bit-zero, bit-below, bit-ext, bit-and, bit-or, bit-not, bit-pow, word-is}
 use Rattle.bits.specs.WordsLaws.{Fit, fit-none, fit-more, in-zeros, none-in, in-words, words-are, words-ext, in-each}
 use Rattle.bits.specs.All.{allB, anyB, upTo}
-use Rattle.bits.specs.AllLaws.{both-ways}
+use Rattle.bits.specs.AllLaws.{both-ways, not-so, any-i}
 use Rattle.rows.specs.Size.{rowSize, numbers}
 use Rattle.rows.specs.Rows.{cell, joinRow}
 use Rattle.sets.specs.declared.Set.{Set}
@@ -72,6 +72,10 @@ some-words p a s f = some-or numbers p a (inWord (s .low) 0) (inWord (s .high) 6
 pub empty-is : (s : Set) → Fit (words s) → (eqb (s .low) 0 && eqb (s .high) 0) ≡ not (anyB numbers (has s))
 unfolding has allB
 empty-is s f = none-in rowSize (words s) f
+
+-- no number is in a set that is empty
+pub empty-at : (s : Set) → not (anyB numbers (has s)) ≡ true → (y : ℕ) → y < numbers → has s y ≡ false
+empty-at s h y l = not-so _ (λ t. true≢false (sym (any-i numbers (has s) y l t) ∙ not-true _ h))
 
 -- an operation on the words that acts on each bit
 module _ (op : Bool → Bool → Bool) (g : ℕ → ℕ → ℕ) (bit-g : (a b i : ℕ) → b < 2 ^ 64 → i < 64 → bit (g a b) i ≡ op (bit a i) (bit b i))
