@@ -1,8 +1,8 @@
 -- The tables of the events on objects: each verdict is its decision's under the rows above it, and each list of effects is the code's.
 -- Assumes nothing.
-use mathlib.Core.Path.{_≡_, refl, ap, sym, _∙_}
+use mathlib.Core.Path.{_≡_, refl, ap, ap₂, sym, _∙_}
 use mathlib.Core.Logic.{⊎-elim}
-use mathlib.Core.Bool.{Bool, true, false, not, _&&_, _||_, and-comm, and-eq-true-iff}
+use mathlib.Core.Bool.{Bool, true, false, not, cond, _&&_, _||_, and-comm, and-eq-true-iff}
 use mathlib.Core.List.{List, [], _∷_}
 use Prim.Native.Nat.{ℕ, _≤_, _<_}
 use native.Mathlib.Omega.{arith}
@@ -10,23 +10,24 @@ use lib.Dec.{eqb}
 use borrow.Author.Tests.{eqb-true, lt-ltb}
 use Rattle.bits.specs.All.{anyB}
 use Rattle.bits.specs.AllLaws.{either, any-ext}
-use Rattle.rows.specs.Size.{present, numbers}
+use Rattle.rows.specs.Rows.{addCell, clearThing}
+use Rattle.rows.specs.Size.{present, rowSize, numbers, tables}
 use Rattle.levels.specs.declared.Order.{Order}
 use Rattle.levels.specs.Order.{atOrBelow}
-use Rattle.records.specs.Records.{BytesLent, isObject, driver, container}
+use Rattle.records.specs.Records.{BytesLent, setRecord, isTask, isObject, driver, container}
 use Rattle.records.specs.KeepLaws.{lies-in}
-use Rattle.model.specs.Verdicts.{granted, slipped, row-number, row-driver, row-place, row-held, row-rule, row-filled}
-use Rattle.model.specs.State.{Memory, task, object, levelOf, readLevelOf, driverOf, liesIn, marked, hasWrite}
+use Rattle.model.specs.Verdicts.{granted, slipped, row-number, row-driver, row-place, row-held, row-rule, row-filled, row-feeding}
+use Rattle.model.specs.State.{Memory, memory, task, object, levelOf, readLevelOf, driverOf, liesIn, marked, hasWrite}
 use Rattle.model.specs.Ready.{Ready}
-use Rattle.model.specs.Effects.{Effect, flow-if, read-access, write-access, move-to, clear, effect, effects}
-use Rattle.model.specs.Events.{Event, left, unless, firstFailing, verdictOf, outcome, read, write, move, delete}
+use Rattle.model.specs.Effects.{Effect, flow-if, read-access, write-access, move-to, bridge, clear, effect, effects}
+use Rattle.model.specs.Events.{Event, left, unless, firstFailing, verdictOf, outcome, feedsUnmarked, read, write, move, delete}
 use Rattle.places.specs.Places.{bytesInside}
 use Rattle.places.specs.PlaceLaws.{inside-is}
 use Rattle.decisions.specs.declared.Decision.{Decision}
 use Rattle.decisions.specs.Decisions.{apart, readDecision, writeDecision, moveDecision, deleteDecision}
 use Rattle.decisions.specs.Facts.{writes, bothWrite}
 use Rattle.decisions.specs.DecisionLaws.{Told, told-tests, turned-away, under, apart-joins, task-small, object-small}
-use Rattle.events.specs.Judged.{allWrite, mayMove, moveNamed, isEmpty, driven, unlessFilled, moveRows, deleteRows, readDecided, writeDecided, moveDecided, deleteDecided, readJudged, writeJudged, moveJudged, deleteJudged}
+use Rattle.events.specs.Judged.{allWrite, mayMove, moveNamed, isEmpty, driven, lastRows, moveRows, deleteRows, readDecided, writeDecided, moveDecided, deleteDecided, readJudged, writeJudged, moveJudged, deleteJudged}
 
 -- a flow that one of two conditions records, of which at most one holds, is recorded where either holds
 one-flow : (b p q : Bool) (x y : ℕ) (rest : List Effect) (m : Memory)
@@ -37,21 +38,21 @@ one-flow true p false x y rest m = refl
 one-flow false true q x y rest m = refl
 one-flow false false q x y rest m = refl
 
--- the row of a filled container is the last
-filled-last : (number driver place held object-task object-driver empty : Bool)
+-- the rows of a filled container and of what feeds are the last
+last-two : (number driver place held object-task object-driver empty feeds : Bool)
     → unless number row-number (unless driver row-driver (unless place row-place (unless held row-held
-    (unless (object-task && object-driver) row-rule (unless empty row-filled (unless true slipped granted))))))
-    ≡ unlessFilled empty (unless number row-number (unless driver row-driver (unless place row-place (unless held row-held
+    (unless (object-task && object-driver) row-rule (unless empty row-filled (unless (not feeds) row-feeding (unless true slipped granted)))))))
+    ≡ lastRows empty feeds (unless number row-number (unless driver row-driver (unless place row-place (unless held row-held
     (apart object-driver (unless object-task row-rule granted))))))
-unfolding unless unlessFilled apart
-filled-last false d p h t o e = refl
-filled-last true false p h t o e = refl
-filled-last true true false h t o e = refl
-filled-last true true true false t o e = refl
-filled-last true true true true true true e = refl
-filled-last true true true true true false e = refl
-filled-last true true true true false true e = refl
-filled-last true true true true false false e = refl
+unfolding unless lastRows apart
+last-two false d p h t o e f = refl
+last-two true false p h t o e f = refl
+last-two true true false h t o e f = refl
+last-two true true true false t o e f = refl
+last-two true true true true true true e f = refl
+last-two true true true true true false e f = refl
+last-two true true true true false true e f = refl
+last-two true true true true false false e f = refl
 
 -- a last test of the row of the place is asked only where nothing up to it refuses
 last-asked : (number driver place last : Bool) (rest : ℕ) → unless number row-number (unless driver row-driver (unless place row-place granted)) ≡ granted
@@ -81,16 +82,37 @@ module _ (bs ws : List ℕ) (e d x f t rest : ℕ) {v : ℕ} (is : v ≡ driven 
   unfolding driven moveRows
   walk-unasked n = is ∙ last-unasked (moveNamed bs e d x f t) (eqb (driver bs x) d) (mayMove bs x f t) _ _ (λ q. n (is ∙ q))
 
--- where the numbers are wrong, no container is asked
-filled-else : (a b : Bool) (v w : ℕ) → unlessFilled a (unless false row-number v) ≡ unlessFilled b (unless false row-number w)
-unfolding unless unlessFilled
-filled-else a b v w = refl
+-- where the numbers are wrong, neither is asked
+neither-asked : (a b f : Bool) (v w : ℕ) → lastRows a f (unless false row-number v) ≡ lastRows b f (unless false row-number w)
+unfolding unless lastRows
+neither-asked a b f v w = refl
+
+-- where they are asked, the numbers are right
+asked-named : (bs : List ℕ) (named : Bool) (d x rest : ℕ) → driven bs named d x rest ≡ granted → named ≡ true
+unfolding driven unless
+asked-named bs true d x rest h = refl
+asked-named bs false d x rest h = absurd (omega arith)
+
+pub asked-small : (bs : List ℕ) → BytesLent bs → (e d x k rest : ℕ) {named : Bool} → named ≡ (isTask bs e && isTask bs d && isObject bs x && isObject bs k)
+    → {v : ℕ} → v ≡ driven bs named d x rest → v ≡ granted → x < numbers
+unfolding object
+asked-small bs long e d x k rest is told g =
+    let p = simp and-eq-true-iff at (sym is ∙ asked-named bs _ d x rest (sym told ∙ g)) in
+    object-small (memory bs []) x long (p .0 .1)
 
 -- an event on wrong numbers is refused with their row
 pub unnamed : (m : Memory) (e : Event) (named : Bool) (d x rest : ℕ) → verdictOf e ≡ driven (m .bytes) named d x rest → named ≡ false
     → left row-number 0 (m .bytes) (m .words) ≡ outcome m e
 unfolding driven unless
 unnamed m e named d x rest is n = turned-away m e (sym (is ∙ rw n)) (omega arith)
+
+-- what a deletion leaves: the flows past the object, then its record and its flows cleared, then a flow to the driver
+pub deleted : (m : Memory) (e d x : ℕ) (b : Bool) {bs bridged cleared ws : List ℕ} → memory (m .bytes) bridged ≡ effect (bridge x) m → bs ≡ setRecord (m .bytes) x 0 0 0 0 0 0 0
+    → cleared ≡ clearThing rowSize numbers tables x bridged → ws ≡ cond b (addCell rowSize cleared e d) cleared
+    → memory bs ws ≡ effects (bridge x ∷ clear x ∷ flow-if b e d ∷ []) m
+unfolding effects effect
+deleted m e d x b p q r s =
+    ap₂ memory q (s ∙ ap (λ (v : List ℕ). cond b (addCell rowSize v e d) v) r) ∙ ap (effects (clear x ∷ flow-if b e d ∷ [])) p
 
 module _ (o : Order) (m : Memory) where
   infix 40 _⊑_
@@ -141,7 +163,7 @@ module _ (o : Order) (m : Memory) where
   unfolding move moveDecided moveDecision effects effect
   move-told e d x f t = record { verdict = refl; leaves = refl }
 
-  pub delete-told : (e d x k : ℕ) → Told m (delete o m e d x k) (deleteJudged o m e d x k) (λ j. clear x ∷ flow-if (j .second) e d ∷ [])
+  pub delete-told : (e d x k : ℕ) → Told m (delete o m e d x k) (deleteJudged o m e d x k) (λ j. bridge x ∷ clear x ∷ flow-if (j .second) e d ∷ [])
   unfolding delete deleteDecided deleteDecision effects effect
   delete-told e d x k = record { verdict = refl; leaves = refl }
 
@@ -180,11 +202,11 @@ module _ (o : Order) (m : Memory) where
         ≡ deleteRows (m .bytes) (m .words) e d x k (apart (L x ⊑ L d) (deleteDecided o m e d x .verdict))
     unfolding verdictOf firstFailing delete deleteDecided deleteDecision task object hasWrite writes bothWrite driven deleteRows
     delete-verdict e d x k =
-        filled-last named (eqb (driverOf m x) d) (liesIn m x k) (hasWrite m e k && hasWrite m d k) (L x ⊑ L e) (L x ⊑ L d) empty
+        last-two named (eqb (driverOf m x) d) (liesIn m x k) (hasWrite m e k && hasWrite m d k) (L x ⊑ L e) (L x ⊑ L d) empty (feedsUnmarked m x)
         ∙ ⊎-elim
         (λ h. let p = simp and-eq-true-iff at h in
         rw (empty-is x (p .0 .1), lies x k (p .1), lt-ltb e numbers (task-small m e (r .0) (p .0 .0 .0)), lt-ltb d numbers (task-small m d (r .0) (p .0 .0 .1))))
-        (λ h. rw h (filled-else empty (isEmpty (m .bytes) x) _ _))
+        (λ h. rw h (neither-asked empty (isEmpty (m .bytes) x) (feedsUnmarked m x) _ _))
         (either named)
       where
         named : Bool
@@ -213,8 +235,8 @@ module _ (o : Order) (m : Memory) where
         let p = simp and-eq-true-iff at (told-tests (move-told e d x f t) is h refl .0) in
         object-small m t long (p .1)
 
-    pub delete-fits : (e d x k : ℕ) → j ≡ deleteJudged o m e d x k → j .verdict ≤ slipped → x < numbers
-    unfolding delete
+    pub delete-fits : (e d x k : ℕ) → j ≡ deleteJudged o m e d x k → j .verdict ≤ slipped → (x < numbers) × (isObject (m .bytes) x ≡ true)
+    unfolding delete object
     delete-fits e d x k is h =
         let p = simp and-eq-true-iff at (told-tests (delete-told e d x k) is h refl .0) in
-        object-small m x long (p .0 .1)
+        (object-small m x long (p .0 .1), p .0 .1)

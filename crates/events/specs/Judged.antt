@@ -9,9 +9,9 @@ use Rattle.rows.specs.Size.{numbers}
 use Rattle.records.specs.Records.{driver, container, isTask, isObject}
 use Rattle.levels.specs.declared.Order.{Order}
 use Rattle.levels.specs.Order.{atOrBelow}
-use Rattle.model.specs.Verdicts.{granted, row-number, row-driver, row-place, row-held, row-filled}
-use Rattle.model.specs.State.{Memory, levelOf, readLevelOf, marked}
-use Rattle.model.specs.Events.{unless, read, write, move, delete}
+use Rattle.model.specs.Verdicts.{granted, row-number, row-driver, row-place, row-held, row-filled, row-feeding}
+use Rattle.model.specs.State.{Memory, memory, levelOf, readLevelOf, marked}
+use Rattle.model.specs.Events.{unless, feedsUnmarked, read, write, move, delete}
 use Rattle.places.specs.Places.{bytesInside}
 use Rattle.decisions.specs.declared.Decision.{Decision}
 use Rattle.decisions.specs.Facts.{writes, bothWrite}
@@ -38,9 +38,9 @@ isEmpty bs x = not (anyB numbers (λ y. isObject bs y && eqb (container bs y) x)
 unfoldable pub driven : List ℕ → Bool → ℕ → ℕ → ℕ → ℕ
 driven bs named d x rest = unless named row-number (unless (eqb (driver bs x) d) row-driver rest)
 
--- the row below the rule, of a container that has to be empty, where no row above it applies
-unfoldable pub unlessFilled : Bool → ℕ → ℕ
-unlessFilled empty v = unless (not (eqb v granted) || empty) row-filled v
+-- the two rows below the rule, where no row above them applies: a container that has to be empty, and a marked object that feeds an unmarked thing
+unfoldable pub lastRows : Bool → Bool → ℕ → ℕ
+lastRows empty feeds v = unless (not (eqb v granted) || empty) row-filled (unless (not (eqb v granted && feeds)) row-feeding v)
 
 -- ---- the rows of move and delete but for the level tests
 
@@ -51,7 +51,7 @@ moveRows bs ws e d x f t rest =
 
 unfoldable pub deleteRows : List ℕ → List ℕ → ℕ → ℕ → ℕ → ℕ → ℕ → ℕ
 deleteRows bs ws e d x k rest =
-    unlessFilled (isEmpty bs x)
+    lastRows (isEmpty bs x) (feedsUnmarked (memory bs ws) x)
     (driven bs (isTask bs e && isTask bs d && isObject bs x && isObject bs k) d x
     (unless (eqb (container bs x) k) row-place (unless (bothWrite ws e d k) row-held rest)))
 

@@ -1,10 +1,12 @@
 // What each event leaves when it is done.
 ghost use mathlib.Core.Path.{_≡_};
+ghost use mathlib.Core.Bool.{true};
 ghost use mathlib.Core.List.{List, [], _∷_};
 ghost use Prim.Native.Nat.{ℕ, _<_};
 ghost use Rattle.rows.specs.Size.{numbers, WordsLent};
+ghost use Rattle.records.specs.Records.{BytesLent, isObject};
 ghost use Rattle.model.specs.State.{memory};
-ghost use Rattle.model.specs.Effects.{flow-if, read-access, write-access, move-to, clear, effects};
+ghost use Rattle.model.specs.Effects.{flow-if, read-access, write-access, move-to, bridge, clear, effects};
 use decisions::Decision;
 use decisions::effects::add_access;
 use decisions::effects::record_both;
@@ -48,9 +50,10 @@ pub fn move_object(
 }
 
 pub fn delete(bytes: &mut [u8], words: &mut [u64], judged: Decision, e: u16, d: u16, x: u16)
-    requires { ⌜ WordsLent (now words) × (x < numbers) ⌝ }
-    ensures { λ _. ⌜ memory (now (bytes .exit)) (now (words .exit)) ≡ effects (clear x ∷ flow-if (judged .second) e d ∷ []) (memory (now (bytes .entry)) (now (words .entry))) ⌝ }
+    requires { ⌜ BytesLent (now bytes) × WordsLent (now words) × (x < numbers) × (isObject (now bytes) x ≡ true) ⌝ }
+    ensures { λ _. ⌜ memory (now (bytes .exit)) (now (words .exit)) ≡ effects (bridge x ∷ clear x ∷ flow-if (judged .second) e d ∷ []) (memory (now (bytes .entry)) (now (words .entry))) ⌝ }
 {
+    bridging::bridge(bytes, words, x);
     set_record(bytes, x, FREE, 0, 0, 0, 0, 0);
     rows::clear_thing(words, x);
     rows::add_if(words, judged.second, e, d);

@@ -1,10 +1,15 @@
 // The verdict of each event, and which of its flows are recorded.
 ghost use mathlib.Core.Path.{_≡_};
 ghost use mathlib.Core.List.{List};
-ghost use Prim.Native.Nat.{ℕ};
+ghost use Prim.Native.Nat.{ℕ, _<_};
+ghost use Rattle.rows.specs.Size.{numbers, WordsLent};
+ghost use Rattle.records.specs.Records.{BytesLent};
+ghost use Rattle.model.specs.Verdicts.{granted};
 ghost use Rattle.model.specs.State.{memory};
 ghost use Rattle.model.specs.Ready.{Ready};
-ghost use Rattle.events.specs.Judged.{allWrite, mayMove, moveNamed, isEmpty, driven, unlessFilled, moveRows, deleteRows, readDecided, writeDecided, moveDecided, deleteDecided, readJudged, writeJudged, moveJudged, deleteJudged};
+ghost use Rattle.model.specs.Events.{feedsUnmarked};
+ghost use Rattle.events.specs.Judged.{allWrite, mayMove, moveNamed, isEmpty, driven, lastRows, moveRows, deleteRows, readDecided, writeDecided, moveDecided, deleteDecided, readJudged, writeJudged, moveJudged, deleteJudged};
+use bridging::feeds_unmarked;
 use decisions::Decision;
 use decisions::apart;
 use decisions::facts::are_named;
@@ -15,6 +20,7 @@ use decisions::facts::names;
 use decisions::facts::writes;
 use decisions::unless;
 use levels::Order;
+use model::FEEDING;
 use model::FILLED;
 use model::GRANTED;
 use model::HELD;
@@ -153,24 +159,28 @@ fn is_empty(bytes: &[u8], x: u16) -> bool
     true
 }
 
-// The row below the rule. The records are gone through only where nothing else refuses.
-fn unless_filled(bytes: &[u8], x: u16, verdict: u8) -> u8
-    ensures { λ r. ⌜ r ≡ unlessFilled (isEmpty (now (bytes .entry)) x) verdict ⌝ }
+// The two rows below the rule. The records and the flows are gone through only where nothing else refuses.
+fn last_rows(bytes: &[u8], words: &[u64], x: u16, verdict: u8) -> u8
+    requires { ⌜ BytesLent (now bytes) × WordsLent (now words) × (verdict ≡ granted → x < numbers) ⌝ }
+    ensures { λ r. ⌜ r ≡ lastRows (isEmpty (now (bytes .entry)) x) (feedsUnmarked (memory (now (bytes .entry)) (now (words .entry))) x) verdict ⌝ }
 {
-    if verdict == GRANTED {
-        unless(is_empty(bytes, x), FILLED, verdict)
-    } else {
-        verdict
+    if verdict != GRANTED {
+        return verdict;
     }
+    if !is_empty(bytes, x) {
+        return FILLED;
+    }
+    unless(!feeds_unmarked(bytes, words, x), FEEDING, verdict)
 }
 
 fn delete_rows(bytes: &[u8], words: &[u64], e: u16, d: u16, x: u16, k: u16, rest: u8) -> u8
+    requires { ⌜ BytesLent (now bytes) × WordsLent (now words) ⌝ }
     ensures { λ r. ⌜ r ≡ deleteRows (now (bytes .entry)) (now (words .entry)) e d x k rest ⌝ }
 {
     let named = are_named(bytes, e, d, x) & is_object(bytes, k);
     let held = unless(both_write(words, e, d, k), HELD, rest);
     let row = unless(names(bytes, x, CONTAINER, k), PLACE, held);
-    unless_filled(bytes, x, driven(bytes, named, d, x, row))
+    last_rows(bytes, words, x, driven(bytes, named, d, x, row))
 }
 
 pub fn delete(bytes: &[u8], words: &[u64], order: Order, e: u16, d: u16, x: u16, k: u16) -> Decision

@@ -8,16 +8,16 @@ use Prim.Native.Nat.{ℕ, zero, suc, _+_, _-_, _*_, _/_, _%_, _^_, _≤_, _<_}
 use native.Mathlib.Nat.{le-refl, le-suc, le-trans, mul-le-mul-left}
 use native.Mathlib.Omega.{arith}
 use lib.Arith.{digits-div, digits-mod}
-use lib.Bits.{bitAnd, bitOr, and-zero-l}
+use lib.Bits.{bitAnd, bitOr, and-zero-l, or-zero-r}
 use lib.Dec.{eqb, ltb}
 use lib.ListN.{length, getD, set, length-set, replicate, List·getD-eq-default}
 use lib.Pow.{pow-lt}
-use lib.Seq.{getD-set-same, getD-set-other, set-out}
-use borrow.Author.Tests.{eqb-true, eqb-false, eq-eqb, ltb-true, ltb-false, lt-ltb}
+use lib.Seq.{getD-set-same, getD-set-other, set-getD, set-out}
+use borrow.Author.Tests.{eqb-true, eqb-false, eq-eqb, ltb-true, ltb-false, lt-ltb, le-ltb}
 use Rattle.bits.specs.Bit.{bit, wordOf}
-use Rattle.bits.specs.BitLaws.{bit-and, bit-or, bit-pow, bit-not, bit-zero, bit-word}
+use Rattle.bits.specs.BitLaws.{bit-and, bit-or, bit-pow, bit-not, bit-zero, bit-word, word-is, word-lt}
 use Rattle.bits.specs.All.{anyB, upTo}
-use Rattle.bits.specs.AllLaws.{either, both-ways, or-l, and-l, and-r, and-i, and-true, or-false, any-i, any-at}
+use Rattle.bits.specs.AllLaws.{either, both-ways, or-l, and-l, and-r, and-i, and-true, or-false, any-i, any-at, up-more}
 use Rattle.bits.specs.LoopLaws.{up-keeps}
 use Rattle.bits.specs.WordsLaws.{getD-zeros}
 use Rattle.rows.specs.Size.{Size, small, large, numbersOf}
@@ -335,6 +335,52 @@ cell-bridged n r from to ws x y room h =
         let g = and-r (ltb x r) (from x && (to y && not (eqb y x))) e in
         any-i r row x (ltb-true x r (and-l (ltb x r) (from x && (to y && not (eqb y x))) e))
         (and-i (and-l (from x) (to y && not (eqb y x)) g) (and-i (eq-eqb x x refl) (and-r (from x) (to y && not (eqb y x)) g)))
+
+-- one row more
+pub bridged-more : (n r : ℕ) (from to : ℕ → Bool) (ws v : List ℕ) → v ≡ bridged n r from to ws
+    → cond (from r) (joinRow n r (λ y. to y && not (eqb y r)) v) v ≡ bridged n (r + 1) from to ws
+unfolding bridged
+bridged-more n r from to ws v e = up-more _ r ws v e
+
+-- the rows to come are as they were
+pub bridged-later : (n r : ℕ) (from to : ℕ → Bool) (ws : List ℕ) (x y : ℕ) → r ≤ x → n * r ≤ length ws → y < 64 * n
+    → cell n (bridged n r from to ws) x y ≡ cell n ws x y
+bridged-later n r from to ws x y l room h =
+    cell-bridged n r from to ws x y room h
+    ∙ ap (λ (b : Bool). cell n ws x y || (b && (from x && (to y && not (eqb y x))))) (le-ltb x r l)
+    ∙ or-false (cell n ws x y)
+
+-- ---- rows joined by equal tests are equal, and no column that passes changes nothing
+
+up-ext : {A : Type 0} (f g : ℕ → A → A) (n : ℕ) → ((i : ℕ) (s : A) → i < n → f i s ≡ g i s) → (s : A) → upTo f n s ≡ upTo g n s
+unfolding upTo
+up-ext f g zero h s = refl
+up-ext f g (suc n) h s = h n (upTo f n s) (le-refl (suc n)) ∙ ap (g n) (up-ext f g n (λ i t l. h i t (le-trans l (le-suc n))) s)
+
+pub join-ext : (n x : ℕ) (s t : ℕ → Bool) (ws : List ℕ) → ((y : ℕ) → y < 64 * n → s y ≡ t y) → joinRow n x s ws ≡ joinRow n x t ws
+unfolding joinRow
+join-ext n x s t ws e =
+    up-ext _ _ n
+    (λ i v l. ap (λ (w : ℕ). set v (n * x + i) (bitOr (getD v (n * x + i) 0) w))
+    (word-is (λ j. t (64 * i + j)) _ (word-lt _) (λ j b. bit-word (λ j. s (64 * i + j)) j b ∙ e (64 * i + j) (omega arith)))) ws
+
+join-none : (n x : ℕ) (ws : List ℕ) → joinRow n x (λ y. false) ws ≡ ws
+unfolding joinRow
+join-none n x ws = up-keeps _ (λ v. v ≡ ws) n (λ i v l e. still v (n * x + i) ∙ e) ws refl
+  where
+    still : (v : List ℕ) (p : ℕ) → set v p (bitOr (getD v p 0) (wordOf (λ j. false))) ≡ v
+    still v p =
+        ap (λ (w : ℕ). set v p (bitOr (getD v p 0) w)) (sym (word-is (λ j. false) 0 (omega arith) (λ j b. bit-zero j)))
+        ∙ ap (set v p) (or-zero-r (getD v p 0))
+        ∙ set-getD v p 0
+
+pub bridged-none : (n r : ℕ) (from to : ℕ → Bool) (ws : List ℕ) → ((y : ℕ) → y < 64 * n → to y ≡ false) → bridged n r from to ws ≡ ws
+unfolding bridged
+bridged-none n r from to ws h = up-keeps _ (λ v. v ≡ ws) r (λ x v l e. go x v (from x) ∙ e) ws refl
+  where
+    go : (x : ℕ) (v : List ℕ) (b : Bool) → cond b (joinRow n x (λ y. to y && not (eqb y x)) v) v ≡ v
+    go x v true = join-ext n x _ (λ y. false) v (λ y l. ap (λ (b : Bool). b && not (eqb y x)) (h y l)) ∙ join-none n x v
+    go x v false = refl
 
 -- ---- what is set stays so, wherever a word is joined: past the end too
 

@@ -1,22 +1,23 @@
 -- Laws of sets: those of words and of rows, at the words that a set has.
 -- Assumes nothing.
 use mathlib.Core.Path.{_≡_, refl, sym, ap, ap₂, _∙_}
-use mathlib.Core.Bool.{Bool, true, false, not, _&&_, _||_, and-eq-true-iff}
+use mathlib.Core.Bool.{Bool, true, false, not, _&&_, _||_, true≢false, and-eq-true-iff}
 use mathlib.Core.List.{List, [], _∷_}
-use Prim.Native.Nat.{ℕ, _+_, _-_, _*_, _^_, _≤_, _<_}
+use Prim.Native.Nat.{ℕ, _+_, _-_, _*_, _%_, _^_, _≤_, _<_}
 use native.Mathlib.Nat.{add-zero}
 use native.Mathlib.Omega.{arith}
 use lib.Bits.{bitAnd, bitOr, and-lt, or-lt}
 use lib.Dec.{eqb}
-use lib.ListN.{getD}
-use lib.Pow.{ones-sub-lt}
-use borrow.Author.Tests.{leb-true}
+use lib.ListN.{getD, set}
+use lib.Pow.{pow-lt, ones-sub-lt}
+use borrow.Author.Tests.{leb-true, eqb-true, eq-eqb, ne-eqb, not-true}
 use Rattle.bits.specs.Bit.{bit, wordOf, inWords, wordsOf, wordsBy}
-use Rattle.bits.specs.BitLaws.{bit-below, bit-ext, bit-and, bit-or, bit-not}
+use Rattle.bits.specs.BitLaws.{bit-zero, bit-below, bit-ext, bit-and, bit-or, bit-not, bit-pow, word-is}
 use Rattle.bits.specs.WordsLaws.{Fit, fit-none, fit-more, in-zeros, none-in, in-words, words-are, words-ext, in-each}
-use Rattle.bits.specs.All.{allB, anyB}
+use Rattle.bits.specs.All.{allB, anyB, upTo}
+use Rattle.bits.specs.AllLaws.{both-ways, not-so, any-i}
 use Rattle.rows.specs.Size.{rowSize, numbers}
-use Rattle.rows.specs.Rows.{cell}
+use Rattle.rows.specs.Rows.{cell, joinRow}
 use Rattle.sets.specs.declared.Set.{Set}
 use Rattle.sets.specs.Sets.{Within, words, ofWords, has, setOf, inWord, joined}
 use Rattle.sets.specs.WalkLaws.{in-some, someOf, some-ext, some-or, in-row}
@@ -72,6 +73,10 @@ pub empty-is : (s : Set) → Fit (words s) → (eqb (s .low) 0 && eqb (s .high) 
 unfolding has allB
 empty-is s f = none-in rowSize (words s) f
 
+-- no number is in a set that is empty
+pub empty-at : (s : Set) → not (anyB numbers (has s)) ≡ true → (y : ℕ) → y < numbers → has s y ≡ false
+empty-at s h y l = not-so _ (λ t. true≢false (sym (any-i numbers (has s) y l t) ∙ not-true _ h))
+
 -- an operation on the words that acts on each bit
 module _ (op : Bool → Bool → Bool) (g : ℕ → ℕ → ℕ) (bit-g : (a b i : ℕ) → b < 2 ^ 64 → i < 64 → bit (g a b) i ≡ op (bit a i) (bit b i))
     (g-lt : (a b : ℕ) → a < 2 ^ 64 → b < 2 ^ 64 → g a b < 2 ^ 64) where
@@ -79,6 +84,30 @@ module _ (op : Bool → Bool → Bool) (g : ℕ → ℕ → ℕ) (bit-g : (a b i
   unfolding has wordsBy
   each-bit a b f h =
       set-is _ _ (fits (g-lt _ _ (f .word 0) (h .word 0)) (g-lt _ _ (f .word 1) (h .word 1))) (λ x l. in-each op g bit-g rowSize (words a) (words b) h x l)
+
+-- ---- the set of one number
+
+-- the word that has x, and a word that has it not
+one-here : (x k : ℕ) → k ≤ x → x < k + 64 → 2 ^ (x - k) ≡ wordOf (λ i. eqb (k + i) x)
+one-here x k l h =
+    word-is _ _ (pow-lt {j = 64} (omega arith))
+    (λ i b. bit-pow (x - k) i
+    ∙ both-ways (eqb i (x - k)) (eqb (k + i) x)
+    (λ e. let d : i ≡ x - k = eqb-true i (x - k) e in eq-eqb (k + i) x (omega arith))
+    (λ e. let d : k + i ≡ x = eqb-true (k + i) x e in eq-eqb i (x - k) (omega arith)))
+
+one-elsewhere : (x k : ℕ) → ((i : ℕ) → i < 64 → k + i ≡ x → ⊥) → 0 ≡ wordOf (λ i. eqb (k + i) x)
+one-elsewhere x k n = word-is _ 0 (omega arith) (λ i b. bit-zero i ∙ sym (ne-eqb (k + i) x (n i b)))
+
+pub only-low : (x : ℕ) → x < 64 → pair (2 ^ (x % 64)) 0 ≡ setOf (λ y. eqb y x)
+only-low x l =
+    let e : x % 64 ≡ x - 0 = omega arith in
+    set-pair (λ y. eqb y x) (ap (λ (k : ℕ). 2 ^ k) e ∙ one-here x 0 (omega arith) (omega arith)) (one-elsewhere x 64 (λ i b d. omega arith))
+
+pub only-high : (x : ℕ) → 64 ≤ x → x < numbers → pair 0 (2 ^ (x % 64)) ≡ setOf (λ y. eqb y x)
+only-high x l h =
+    let e : x % 64 ≡ x - 64 = omega arith in
+    set-pair (λ y. eqb y x) (one-elsewhere x 0 (λ i b d. omega arith)) (ap (λ (k : ℕ). 2 ^ k) e ∙ one-here x 64 l (omega arith))
 
 -- ---- rows as sets
 
@@ -94,6 +123,10 @@ join-not a w h k =
     both true true = refl
     both true false = refl
     both false q = refl
+
+-- the words a and b joined at the places k and l
+abbrev pub stored : List ℕ → ℕ → ℕ → ℕ → ℕ → List ℕ
+stored ws k l a b = let v = set ws k (bitOr (getD ws k 0) a) in set v l (bitOr (getD v l 0) b)
 
 module _ (ws : List ℕ) where
   pub has-row : (z x : ℕ) → x < numbers → has (pair (getD ws (rowSize * z) 0) (getD ws (rowSize * z + 1) 0)) x ≡ cell rowSize ws z x
@@ -115,3 +148,10 @@ module _ (ws : List ℕ) where
       → ((has (pair 0 0) x || joined rowSize ws (inWord (s .low) 0) x) || joined rowSize ws (inWord (s .high) 64) x) ≡ joined rowSize ws (has s) x
   unfolding has joined
   joined-words s f x l = rw (in-zeros rowSize x) (some-words (λ y. cell rowSize ws y x) false s f)
+
+  -- a set joined to row x, word by word
+  pub join-is : (s : Set) → Fit (words s) → (x : ℕ) → stored ws (rowSize * x) (rowSize * x + 1) (s .low) (s .high) ≡ joinRow rowSize x (has s) ws
+  unfolding joinRow upTo wordsOf wordsBy
+  join-is s f x =
+      ap (λ (k : ℕ). stored ws k (rowSize * x + 1) (s .low) (s .high)) (sym (add-zero (rowSize * x)))
+      ∙ ap (λ (l : List ℕ). stored ws (rowSize * x + 0) (rowSize * x + 1) (getD l 0 0) (getD l 1 0)) (set-words (has s) (set-is (has s) s f (λ y l. refl)))

@@ -7,6 +7,7 @@ ghost use lib.Dec.{eqb};
 ghost use Rattle.bits.specs.Bit.{wordOf};
 ghost use Rattle.bits.specs.BitLaws.{lowWord};
 ghost use Rattle.bits.specs.All.{anyB};
+ghost use Rattle.rows.specs.Rows.{cell, joinRow};
 ghost use Rattle.rows.specs.Size.{rowSize, numbers};
 ghost use Rattle.records.specs.Records.{recordSize, BytesLent, field};
 ghost use Rattle.sets.specs.Sets.{last, Within, has, setOf, inWord, joined, TableLent};
@@ -125,4 +126,49 @@ pub fn rows_of(words: &[u64], set: Set) -> Set
 {
     let low = join_word(words, set.low, 0, Set { low: 0, high: 0 });
     join_word(words, set.high, 64, low)
+}
+
+// ---- numbers taken out, and rows as sets
+
+// The set of one number.
+fn only(x: u16) -> Set
+    requires { ⌜ x < numbers ⌝ }
+    ensures { λ r. ⌜ r ≡ setOf (λ y. eqb y x) ⌝ }
+{
+    let bit = bits::mask((x as usize) % 64);
+    if x < 64 {
+        Set { low: bit, high: 0 }
+    } else {
+        Set { low: 0, high: bit }
+    }
+}
+
+// A set without one number.
+pub fn but(a: Set, x: u16) -> Set
+    requires { ⌜ x < numbers ⌝ }
+    ensures { λ r. ⌜ r ≡ setOf (λ y. has a y && not (eqb y x)) ⌝ }
+{
+    without(a, only(x))
+}
+
+// Row x of a table.
+pub fn row(words: &[u64], x: u16) -> Set
+    requires { ⌜ TableLent (now words) × (x < numbers) ⌝ }
+    ensures { λ r. ⌜ r ≡ setOf (λ y. cell rowSize (now (words .entry)) x y) ⌝ }
+{
+    let start = rows::ROW_WORDS * (x as usize);
+    Set {
+        low: words[start],
+        high: words[start + 1],
+    }
+}
+
+// A set is joined to row x of a table.
+pub fn join_row(words: &mut [u64], x: u16, set: Set)
+    requires { ⌜ TableLent (now words) × (x < numbers) ⌝ }
+    ensures { λ _. ⌜ now (words .exit) ≡ joinRow rowSize x (has set) (now (words .entry)) ⌝ }
+{
+    let start = rows::ROW_WORDS * (x as usize);
+    words[start] = words[start] | set.low;
+    words[start + 1] = words[start + 1] | set.high;
 }

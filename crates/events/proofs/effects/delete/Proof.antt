@@ -1,14 +1,17 @@
-use mathlib.Core.Path.{refl}
 use borrow.Author.Needs.{needs}
-use Rattle.model.specs.Effects.{effect, effects}
+use Rattle.model.specs.State.{memory}
+use Rattle.events.specs.EventLaws.{deleted}
 use Rattle.events.proofs.effects.delete.Statement.{statement}
 use Rattle.events.proofs.effects.delete.Tie as tie
 
 returns : tie.Need-returns
-unfolding effect effects
-returns c = simp (c .before .before .add-if .ensures, c .before .before .before .before .before .before .clear-thing .ensures, c .before .before .before .before .before .before .before .before .before .before .set-record .ensures) refl
+returns c =
+    let t = c .before .before .before .before .before .before in
+    let s = t .before .before .before .before in
+    deleted (memory _ _) _ _ _ _ (s .before .before .before .before .bridge .ensures) (s .set-record .ensures) (t .clear-thing .ensures) (c .before .before .add-if .ensures)
 
 pub delete-spec : {M : Type 1} → statement M
 delete-spec =
     tie.close
-    (tie.spec (λ c κs. search needs) (λ c κs. search needs) (λ c κs. search needs) (λ c. search needs) (λ c. search needs) returns)
+    (tie.spec (λ c κs. search needs) (λ c κs. search needs) (λ c κs. search needs) (λ c κs. search needs) (λ c. search needs)
+    (λ c. search needs) returns)
