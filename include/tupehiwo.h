@@ -91,8 +91,7 @@ enum {
     TUPEHIWO_STILL = 13,  /* a step has nothing to mark */
     TUPEHIWO_FORM = 14,   /* the text is no layout's, or too long */
     TUPEHIWO_DEEP = 15,   /* an object lies at a ninth level */
-    TUPEHIWO_FEEDING = 16 /* an object to be deleted is marked and feeds an unmarked
-                             thing other than itself */
+    TUPEHIWO_FEEDING = 16 /* an object to be deleted is marked and feeds an unmarked thing */
 };
 
 /* ------------------------------------------------------------------ codes */
@@ -334,9 +333,8 @@ static inline uint8_t tupehiwo_move(struct tupehiwo_monitor *m, uint64_t task, u
 /*
  * Deletes an empty object from its container, with its flows and accesses. The trail
  * past it stays: each thing that fed the object, and its driver, is recorded as feeding
- * each thing that the object fed, but none as feeding itself. A marked object that feeds
- * an unmarked thing is refused (TUPEHIWO_FEEDING) until a spread, or a step, has marked
- * that too.
+ * each thing that the object fed, but none as feeding itself. While the object is marked
+ * and feeds an unmarked thing it stays (TUPEHIWO_FEEDING): a spread marks that thing too.
  */
 static inline uint8_t tupehiwo_delete(struct tupehiwo_monitor *m, uint64_t task,
                                       uint64_t driver, uint64_t object, uint64_t container)
@@ -392,8 +390,8 @@ static inline uint8_t tupehiwo_step(struct tupehiwo_monitor *m, uint64_t x)
 }
 
 /*
- * Marks all that the marked things reach, by way of objects deleted since too, and tells
- * in how many rounds.
+ * Marks all that the marked things reach, also by way of objects that were deleted, and
+ * tells in how many rounds.
  */
 static inline struct tupehiwo_answer tupehiwo_spread(struct tupehiwo_monitor *m)
 {
