@@ -75,6 +75,46 @@ static int filled(const struct state *s, unsigned container)
     return 0;
 }
 
+/* The things in use, other than n, that n has a flow to. */
+static struct set fed_things(const struct state *s, unsigned n)
+{
+    struct set things = {{0, 0}}, ends = things;
+    join(&ends, row(s, FLOWS, n));
+    while (!empty(&ends)) {
+        unsigned x = take(&ends);
+        if (x != n && used(s, x))
+            put(things.words, x);
+    }
+    return things;
+}
+
+static int feeds_unmarked(const struct state *s, unsigned n)
+{
+    for (struct set things = fed_things(s, n); !empty(&things);)
+        if (!marked(s, take(&things)))
+            return 1;
+    return 0;
+}
+
+/* A feeder's row gets all that the object feeds, but not the feeder itself. */
+static void bridge(struct state *s, unsigned object)
+{
+    struct set things = fed_things(s, object);
+    unsigned driver = field(s, object, DRIVER);
+    if (empty(&things))
+        return;
+    for (unsigned p = 0; p < THINGS; p++) {
+        if (p == object || !used(s, p) || (p != driver && !has(s, FLOWS, p, object)))
+            continue;
+        uint64_t *flows = row(s, FLOWS, p);
+        int itself = holds(flows, p);
+        flows[0] |= things.words[0];
+        flows[1] |= things.words[1];
+        if (!itself)
+            flows[p / 64] &= ~(UINT64_C(1) << (p % 64));
+    }
+}
+
 /* Rows of all three kinds lie one after the other: one loop clears the column. */
 static void clear(struct state *s, unsigned n)
 {

@@ -36,6 +36,15 @@ static void mark_objects(struct state *s, unsigned driver);
 /* Whether an object lies in the container. */
 static int filled(const struct state *s, unsigned container);
 
+/* Whether n has a flow to an unmarked thing in use other than itself. */
+static int feeds_unmarked(const struct state *s, unsigned n);
+
+/*
+ * Flows past an object that is to go: from each thing in use with a flow to it, and from its
+ * driver, to each other thing in use that it has a flow to.
+ */
+static void bridge(struct state *s, unsigned object);
+
 /* The record free, its rows and its column empty. */
 static void clear(struct state *s, unsigned n);
 
@@ -318,6 +327,9 @@ static uint8_t delete_object(struct state *s, unsigned task, unsigned driver, un
         return TUPEHIWO_RULE;
     if (filled(s, object))
         return TUPEHIWO_FILLED;
+    if (marked(s, object) && feeds_unmarked(s, object))
+        return TUPEHIWO_FEEDING;
+    bridge(s, object);
     clear(s, object);
     if (marked(s, driver))
         add(s, FLOWS, task, driver);

@@ -81,6 +81,18 @@ static inline struct set marked_set(const uint8_t *bytes)
     return set_of(bytes, at(MARKS, MARKED));
 }
 
+/* A free record's kind is 0. */
+static inline struct set used_set(const uint8_t *bytes)
+{
+    return set_of(bytes, at(KIND, TASK | OBJECT));
+}
+
+static inline struct set one(unsigned n)
+{
+    uint64_t bit = UINT64_C(1) << (n % 64);
+    return n < 64 ? (struct set){bit, 0} : (struct set){0, bit};
+}
+
 /* Without a branch, and an object's marks are 0 or 1. */
 static void mark_objects(struct state *s, unsigned driver)
 {
@@ -143,6 +155,54 @@ static int filled(const struct state *s, unsigned container)
     for (unsigned n = 0; n < THINGS; n++)
         found |= object_with(load(s->bytes + RECORD * n), CONTAINER, container);
     return found;
+}
+
+/* The others that n has a flow to. */
+static inline struct set ends_of(const struct state *s, unsigned n)
+{
+    const uint64_t *flows = row(s, FLOWS, n);
+    return without((struct set){flows[0], flows[1]}, one(n));
+}
+
+static int feeds_unmarked(const struct state *s, unsigned n)
+{
+    struct set unmarked = without(used_set(s->bytes), marked_set(s->bytes));
+    return !empty(common(ends_of(s, n), unmarked));
+}
+
+/* Which of 64 rows hold n. */
+static inline uint64_t column_word(const uint64_t *rows, unsigned n)
+{
+    uint64_t word = 0;
+    for (unsigned p = 0; p < 64; p++)
+        word |= (uint64_t)holds(rows + 2 * p, n) << p;
+    return word;
+}
+
+/* The set into the rows of a word's numbers, each without its own bit, which is in that half. */
+static inline void join_to_rows(uint64_t *rows, uint64_t word, unsigned half, struct set set)
+{
+    uint64_t halves[2] = {set.low, set.high};
+    for (; word != 0; word &= word - 1) {
+        uint64_t *row = rows + 2 * __builtin_ctzll(word);
+        row[half] |= halves[half] & ~(word & -word);
+        row[!half] |= halves[!half];
+    }
+}
+
+static void bridge(struct state *s, unsigned object)
+{
+    uint64_t *low = row(s, FLOWS, 0), *high = row(s, FLOWS, 64);
+    struct set things = ends_of(s, object), in_use, feeders;
+    if (empty(things))
+        return;
+    in_use = used_set(s->bytes);
+    things = common(things, in_use);
+    feeders = (struct set){column_word(low, object), column_word(high, object)};
+    feeders = without(common(feeders, in_use), one(object));
+    feeders = join(feeders, one(field(s, object, DRIVER)));
+    join_to_rows(low, feeders.low, 0, things);
+    join_to_rows(high, feeders.high, 1, things);
 }
 
 /* Rows of all three kinds lie one after the other: one loop clears the column. */

@@ -70,8 +70,8 @@ enum {
 /* --------------------------------------------------------------- verdicts */
 
 /*
- * What a call answers. The lowest refusal that applies is given, but form and deep
- * come right after order.
+ * What a call answers. The lowest refusal that applies is given, so feeding after
+ * filled, but form and deep come right after order.
  */
 enum {
     TUPEHIWO_GRANTED = 0, /* done */
@@ -90,7 +90,8 @@ enum {
     TUPEHIWO_FILLED = 12, /* a container to be deleted holds an object */
     TUPEHIWO_STILL = 13,  /* a step has nothing to mark */
     TUPEHIWO_FORM = 14,   /* the text is no layout's, or too long */
-    TUPEHIWO_DEEP = 15    /* an object lies at a ninth level */
+    TUPEHIWO_DEEP = 15,   /* an object lies at a ninth level */
+    TUPEHIWO_FEEDING = 16 /* an object to be deleted is marked and feeds an unmarked thing */
 };
 
 /* ------------------------------------------------------------------ codes */
@@ -329,7 +330,12 @@ static inline uint8_t tupehiwo_move(struct tupehiwo_monitor *m, uint64_t task, u
     return tupehiwo_do(m, TUPEHIWO_CODE_MOVE, task, driver, object, from, to).verdict;
 }
 
-/* Deletes an empty object from its container, with its flows and accesses. */
+/*
+ * Deletes an empty object from its container, with its flows and accesses. The trail
+ * past it stays: each thing that fed the object, and its driver, is recorded as feeding
+ * each thing that the object fed, but none as feeding itself. While the object is marked
+ * and feeds an unmarked thing it stays (TUPEHIWO_FEEDING): a spread marks that thing too.
+ */
 static inline uint8_t tupehiwo_delete(struct tupehiwo_monitor *m, uint64_t task,
                                       uint64_t driver, uint64_t object, uint64_t container)
 {
@@ -383,7 +389,10 @@ static inline uint8_t tupehiwo_step(struct tupehiwo_monitor *m, uint64_t x)
     return tupehiwo_do(m, TUPEHIWO_CODE_STEP, x, 0, 0, 0, 0).verdict;
 }
 
-/* Marks all that the marked things reach, and tells in how many rounds. */
+/*
+ * Marks all that the marked things reach, also by way of objects that were deleted, and
+ * tells in how many rounds.
+ */
 static inline struct tupehiwo_answer tupehiwo_spread(struct tupehiwo_monitor *m)
 {
     return tupehiwo_do(m, TUPEHIWO_CODE_SPREAD, 0, 0, 0, 0, 0);
@@ -401,7 +410,7 @@ static inline const char *tupehiwo_word(uint64_t verdict)
     static const char *const words[] = {"granted", "slipped", "state",  "order", "number",
                                         "taken",   "driver",  "place",  "held",  "scale",
                                         "path",    "rule",    "filled", "still", "form",
-                                        "deep"};
+                                        "deep",    "feeding"};
     return verdict < sizeof words / sizeof words[0] ? words[verdict] : "unknown";
 }
 

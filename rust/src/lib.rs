@@ -6,7 +6,7 @@
 //! *driver*, through which it is read and written. The monitor records accesses
 //! and *flows*, and refuses what the levels forbid. When a task turns out to be
 //! captured it is *marked* from outside, and a *spread* then marks all that it
-//! may have tainted.
+//! may have tainted, also by way of objects that were deleted.
 //!
 //! Make a state, mark, spread, read the list:
 //!

@@ -294,17 +294,33 @@ impl Monitor {
 
     /// Deletes an empty object from its container, with its flows and accesses.
     ///
+    /// The trail past it stays: each thing that fed the object, and its driver, is
+    /// recorded as feeding each thing that the object fed, but none as feeding itself.
+    /// While the object is marked and feeds an unmarked thing it stays (`Feeding`): a
+    /// spread marks that thing too.
+    ///
     /// ```
     /// use tupehiwo::{Monitor, Order, Verdict};
     ///
     /// let mut monitor = Monitor::new();
     /// assert_eq!(monitor.start(Order::new(0, [1])), Verdict::Granted);
     /// assert_eq!(monitor.create_root(0, 0, 10, 0), Verdict::Granted);
+    /// assert_eq!(monitor.execute(0, 10, 1, 0, 0), Verdict::Granted);
+    /// assert_eq!(monitor.execute(0, 10, 2, 0, 0), Verdict::Granted);
     /// assert_eq!(monitor.create(0, 0, 11, 10, 0), Verdict::Held);
     /// assert_eq!(monitor.write(0, 0, 10), Verdict::Granted);
     /// assert_eq!(monitor.create(0, 0, 11, 10, 0), Verdict::Granted);
+    ///
+    /// // Task 1 writes the object, task 2 reads it, and it is deleted.
+    /// assert_eq!(monitor.write(1, 0, 11), Verdict::Granted);
+    /// assert_eq!(monitor.read(2, 0, 11), Verdict::Granted);
     /// assert_eq!(monitor.delete(0, 0, 11, 10), Verdict::Granted);
     /// assert_eq!(monitor.delete(0, 0, 11, 10), Verdict::Number);
+    ///
+    /// // Task 1 was captured: the trail leads to task 2 all the same.
+    /// assert_eq!(monitor.mark(1), Verdict::Granted);
+    /// assert_eq!(monitor.spread().rounds, 1);
+    /// assert_eq!(monitor.report().marked().collect::<Vec<_>>(), [1, 2]);
     /// ```
     pub fn delete(&mut self, task: u16, driver: u16, object: u16, container: u16) -> Verdict {
         self.ask(code::DELETE, [task, driver, object, container])
@@ -345,7 +361,8 @@ impl Monitor {
         self.ask(code::STEP, [x])
     }
 
-    /// Marks all that the marked things reach, and tells in how many rounds.
+    /// Marks all that the marked things reach, also by way of objects that were deleted,
+    /// and tells in how many rounds.
     pub fn spread(&mut self) -> Answer {
         self.perform(self.order, code::SPREAD, [])
     }

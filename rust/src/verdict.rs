@@ -40,11 +40,13 @@ pub enum Verdict {
     Form = 14,
     /// An object lies at a ninth level.
     Deep = 15,
+    /// An object to be deleted is marked and feeds an unmarked thing.
+    Feeding = 16,
 }
 
 impl Verdict {
     /// All verdicts, each at the place of its number.
-    pub const ALL: [Verdict; 16] = [
+    pub const ALL: [Verdict; 17] = [
         Verdict::Granted,
         Verdict::Slipped,
         Verdict::State,
@@ -61,9 +63,10 @@ impl Verdict {
         Verdict::Still,
         Verdict::Form,
         Verdict::Deep,
+        Verdict::Feeding,
     ];
 
-    /// The verdict of a number; `None` for 16 and more.
+    /// The verdict of a number; `None` for 17 and more.
     pub fn from_number(number: u8) -> Option<Verdict> {
         Verdict::ALL.get(usize::from(number)).copied()
     }
@@ -92,6 +95,7 @@ impl Verdict {
             Verdict::Still => "still",
             Verdict::Form => "form",
             Verdict::Deep => "deep",
+            Verdict::Feeding => "feeding",
         }
     }
 }
