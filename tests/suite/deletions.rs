@@ -1,41 +1,37 @@
-//! Deletions: the flows past an object that goes, whom a marked one is kept for, and the
-//! trail through what has ended.
+//! Deletions: the flows past an object that goes, and whom a marked one is kept for.
 
-use std::collections::{BTreeMap, BTreeSet};
+use std::collections::BTreeMap;
+use std::ops::Range;
 
 use tupehiwo::ffi::{Order, Request, code};
 use tupehiwo_tests::causes::{DELETED, FEEDS};
 use tupehiwo_tests::compare::Pair;
-use tupehiwo_tests::history::Chains;
-use tupehiwo_tests::list::List;
-use tupehiwo_tests::model::{Lengths, Mark, Number, Object, Pairs, State, THINGS, Task, Thing};
+use tupehiwo_tests::model::{Mark, Number, Object, Pairs, State, THINGS, Task, Thing};
+use tupehiwo_tests::request;
 use tupehiwo_tests::rng::{Rng, seed};
 use tupehiwo_tests::worlds::{self, FAILING, Q, SHORT};
-use tupehiwo_tests::{request, texts};
 
 const FLAT: Order = Order::new(0, [1]);
 const FEEDING: u8 = 16;
 
-fn numbers() -> std::ops::Range<Number> {
+fn numbers() -> Range<Number> {
     0..THINGS as Number
 }
 
-fn task(marked: bool) -> Thing {
-    let mark = if marked { Mark::Marked } else { Mark::Unmarked };
-    Thing::Task(Task { level: 0, read_level: 0, mark })
+fn task(level: u16) -> Thing {
+    Thing::Task(Task { level, read_level: 0, mark: Mark::Unmarked })
 }
 
-fn object(driver: Number, container: Option<Number>, marked: bool) -> Thing {
-    Thing::Object(Object { level: 0, driver, container, marked })
+fn object(level: u16, driver: Number, container: Option<Number>) -> Thing {
+    Thing::Object(Object { level, driver, container, marked: false })
 }
 
-fn set_marked(state: &mut State, n: Number, marked: bool) {
-    let changed = match state.things[usize::from(n)] {
-        Thing::Object(object) => Thing::Object(Object { marked, ..object }),
-        Thing::Task(_) => task(marked),
-        other => other,
-    };
-    state.put(n, changed);
+fn mark(state: &mut State, n: Number) {
+    match &mut state.things[usize::from(n)] {
+        Thing::Task(task) => task.mark = Mark::Marked,
+        Thing::Object(object) => object.marked = true,
+        _ => {}
+    }
 }
 
 /// Who asks for what to be deleted from where.
@@ -52,14 +48,14 @@ impl Deletion {
     /// the accesses that are needed are recorded.
     fn among_tasks(&self) -> State {
         let mut state = State::started(FLAT.top);
-        numbers().for_each(|n| state.put(n, task(false)));
+        numbers().for_each(|n| state.put(n, task(0)));
         self.furnish(&mut state);
         state
     }
 
     fn furnish(&self, state: &mut State) {
-        state.put(self.container, object(self.driver, None, false));
-        state.put(self.object, object(self.driver, Some(self.container), false));
+        state.put(self.container, object(0, self.driver, None));
+        state.put(self.object, object(0, self.driver, Some(self.container)));
         state.writes.extend([(self.asker, self.container), (self.driver, self.container)]);
     }
 
@@ -85,12 +81,12 @@ impl Deletion {
         before.flows.iter().for_each(|&(p, q)| rows[usize::from(p)][usize::from(q)] = true);
         let flow = |p: Number, q: Number| rows[usize::from(p)][usize::from(q)];
         let other = |n: Number| n != object && before.things[usize::from(n)] != Thing::Free;
-        let slipped = before.is_marked(driver);
+        let captured = before.is_marked(driver);
         let left = |p, q| {
             let stood = p != object && q != object && flow(p, q);
             let feeder = other(p) && (p == driver || flow(p, object));
             let fed = other(q) && flow(object, q);
-            stood || (feeder && fed && p != q) || (slipped && (p, q) == (asker, driver))
+            stood || (feeder && fed && p != q) || (captured && (p, q) == (asker, driver))
         };
         let pairs = numbers().flat_map(|p| numbers().map(move |q| (p, q)));
         pairs.filter(|&(p, q)| left(p, q)).collect()
@@ -205,11 +201,11 @@ impl Cast {
     fn state(&self, rng: &mut Rng, flows: &str, is_marked: impl Fn(char) -> bool) -> State {
         let mut state = State::started(FLAT.top);
         let tasks = self.0.iter().filter(|(role, _)| "edab".contains(**role));
-        tasks.for_each(|(_, &n)| state.put(n, task(false)));
+        tasks.for_each(|(_, &n)| state.put(n, task(0)));
         self.deletion().furnish(&mut state);
-        state.put(self.of('x'), object(self.of('a'), None, false));
+        state.put(self.of('x'), object(0, self.of('a'), None));
         let marked = self.0.iter().filter(|(role, _)| is_marked(**role));
-        marked.for_each(|(_, &n)| set_marked(&mut state, n, true));
+        marked.for_each(|(_, &n)| mark(&mut state, n));
         state.flows = self.flows(flows);
         let ends: Vec<Number> = self.0.values().copied().collect();
         for accesses in [&mut state.reads, &mut state.writes] {
@@ -234,16 +230,21 @@ const MARKED: [Marking; 6] = [
 
 /// A case with these marks. A marked object is kept for the unmarked that it feeds; the free
 /// and itself are none of these.
-fn must_follow(pair: &mut Pair, rng: &mut Rng, case: (&str, &str), cast: &Cast, mark: Marking) {
-    let (before, after) = case;
+fn must_follow(
+    pair: &mut Pair,
+    rng: &mut Rng,
+    (before, after): (&str, &str),
+    cast: &Cast,
+    is_marked: Marking,
+) {
     let deletion = cast.deletion();
-    let state = cast.state(rng, before, mark);
+    let state = cast.state(rng, before, is_marked);
     let feeds = |role: char| before.contains(&format!("o{role}"));
-    if mark('o') && "abcdex".chars().any(|role| feeds(role) && !mark(role)) {
+    if is_marked('o') && "abcdex".chars().any(|role| feeds(role) && !is_marked(role)) {
         return deletion.must_be_kept(pair, state);
     }
     let mut flows = cast.flows(after);
-    flows.extend(mark('d').then_some((deletion.asker, deletion.driver)));
+    flows.extend(is_marked('d').then_some((deletion.asker, deletion.driver)));
     let left = deletion.left(&state, flows);
     deletion.must_leave(pair, state, &left);
 }
@@ -255,10 +256,10 @@ fn flows_past_the_object() {
     let mut pair = Pair::new("flows past the object");
     for case in CASES.repeat(40) {
         let cast = Cast::any(&mut rng);
-        for mark in MARKED {
-            must_follow(&mut pair, &mut rng, case, &cast, mark);
+        for is_marked in MARKED {
+            must_follow(&mut pair, &mut rng, case, &cast, is_marked);
             if !case.0.contains('e') {
-                must_follow(&mut pair, &mut rng, case, &cast.alone(), mark);
+                must_follow(&mut pair, &mut rng, case, &cast.alone(), is_marked);
             }
         }
     }
@@ -334,6 +335,26 @@ fn all_else_stays() {
     }
 }
 
+/// With a bit in every place of its row and column: none of them is bridged, or keeps a
+/// marked object.
+#[test]
+fn every_free_number() {
+    let mut pair = Pair::new("every free number");
+    for free in numbers().skip(1).filter(|n| ![64, 63, 2].contains(n)) {
+        let deletion = Deletion { asker: 0, driver: 2, object: 64, container: 63 };
+        let mut state = deletion.among_tasks();
+        state.put(free, Thing::Free);
+        mark(&mut state, 64);
+        for pairs in [&mut state.flows, &mut state.reads, &mut state.writes] {
+            pairs.extend(numbers().flat_map(|n| [(free, n), (n, free)]));
+        }
+        let mut flows = state.flows.clone();
+        flows.retain(|&(from, to)| from != 64 && to != 64);
+        let left = deletion.left(&state, flows);
+        deletion.must_leave(&mut pair, state, &left);
+    }
+}
+
 // ---------------------------------------------------------------- any memory
 
 /// Sound memory of any kind, often with everything else marked, and a deletion that only
@@ -354,7 +375,7 @@ fn any_deletion(rng: &mut Rng) -> Option<(State, Deletion)> {
     state.put(object, Thing::Object(Object { container: Some(container), ..found }));
     state.writes.extend([(asker, container), (driver, container)]);
     if rng.once_in(4) {
-        numbers().for_each(|n| set_marked(&mut state, n, true));
+        numbers().for_each(|n| mark(&mut state, n));
     }
     Some((state, Deletion { asker, driver, object, container }))
 }
@@ -439,39 +460,25 @@ const ASKED: [Number; 4] = [TASK, DRIVER, OBJECT, CONTAINER];
 /// granted if it is not marked.
 fn feeding(marked: bool) -> State {
     let mut state = State::started(Q.top);
-    for n in [DRIVER, TASK, FED] {
-        state.put(n, Thing::Task(Task { level: 3, read_level: 0, mark: Mark::Unmarked }));
-    }
+    [DRIVER, TASK, FED].iter().for_each(|&n| state.put(n, task(3)));
     for (n, container) in [(CONTAINER, None), (OBJECT, Some(CONTAINER)), (ELSEWHERE, None)] {
-        let marked = marked && n == OBJECT;
-        state.put(n, Thing::Object(Object { level: 2, driver: DRIVER, container, marked }));
+        state.put(n, object(2, DRIVER, container));
         state.writes.extend([(DRIVER, n), (TASK, n)]);
     }
     state.flows.insert((OBJECT, FED));
+    if marked {
+        mark(&mut state, OBJECT);
+    }
     state
 }
 
-fn set_level(state: &mut State, n: Number, level: u16) {
-    state.put(n, Thing::Task(Task { level, read_level: 0, mark: Mark::Unmarked }));
-}
-
-fn mark(state: &mut State, n: Number) {
-    match &mut state.things[usize::from(n)] {
-        Thing::Task(task) => task.mark = Mark::Outside,
-        Thing::Object(object) => object.marked = true,
-        other => panic!("{n} has no mark: {other:?}"),
-    }
-}
-
 fn fill(state: &mut State) {
-    let container = Some(OBJECT);
-    let inner = Object { level: 0, driver: DRIVER, container, marked: false };
-    state.put(INNER, Thing::Object(inner));
+    state.put(INNER, object(0, DRIVER, Some(OBJECT)));
 }
 
 fn fill_and_lower(state: &mut State) {
     fill(state);
-    set_level(state, TASK, 1);
+    state.put(TASK, task(1));
 }
 
 /// What is changed in that state, and the verdict where the object is marked and where it
@@ -483,8 +490,8 @@ const CHANGES: [Change; 23] = [
     (|state| state.put(99, Thing::Damaged([3; 8])), [2, 2]),
     (|state| state.writes.retain(|&held| held != (TASK, CONTAINER)), [8, 8]),
     (|state| state.writes.retain(|&held| held != (DRIVER, CONTAINER)), [8, 8]),
-    (|state| set_level(state, TASK, 1), [11, 11]),
-    (|state| set_level(state, DRIVER, 0), [11, 11]),
+    (|state| state.put(TASK, task(1)), [11, 11]),
+    (|state| state.put(DRIVER, task(0)), [11, 11]),
     (fill, [12, 12]),
     (fill_and_lower, [11, 11]),
     (|state| mark(state, DRIVER), [16, 0]),
@@ -537,251 +544,5 @@ fn numbers_drivers_and_places() {
             let answer = pair.perform(Q, request(code::DELETE, &arguments));
             assert_eq!(answer.verdict, verdict, "{arguments:?}, {marked}");
         }
-    }
-}
-
-// ------------------------------------------------------------------ the trail
-
-/// Calls under one level, from a start, and who is marked.
-struct Trial(Pair);
-
-impl Trial {
-    /// The core's root 1, which the core writes to, and tasks that run from it.
-    fn new(tasks: std::ops::Range<Number>) -> Trial {
-        let mut trial = Trial(Pair::started("trail", FLAT));
-        trial.grant(code::CREATE_ROOT, &[0, 0, 1, 0]);
-        trial.grant(code::WRITE, &[0, 0, 1]);
-        tasks.for_each(|task| trial.grant(code::EXECUTE, &[0, 1, task, 0, 0]));
-        trial
-    }
-
-    fn ask(&mut self, code: u16, arguments: &[u16]) -> u8 {
-        self.0.perform(FLAT, request(code, arguments)).verdict
-    }
-
-    #[track_caller]
-    fn grant(&mut self, code: u16, arguments: &[u16]) {
-        assert_eq!(self.ask(code, arguments), 0, "code {code} of {arguments:?}");
-    }
-
-    /// A spread has so many rounds, and these are marked then.
-    #[track_caller]
-    fn must_mark(&mut self, rounds: u8, marked: impl IntoIterator<Item = Number>) {
-        let answer = self.0.perform(FLAT, request(code::SPREAD, &[]));
-        assert_eq!((answer.verdict, answer.rounds), (0, rounds));
-        let is_marked = |&n: &Number| self.0.byte(8 * usize::from(n) + 5) != 0;
-        let expected: Vec<Number> = marked.into_iter().collect();
-        assert_eq!(numbers().filter(is_marked).collect::<Vec<_>>(), expected);
-    }
-}
-
-/// Each task writes to a scratch file that the next one reads, all of one number: the trail
-/// leads through every one of them.
-#[test]
-fn scratch_files_of_one_number() {
-    let mut trial = Trial::new(2..127);
-    for task in 2..126 {
-        trial.grant(code::CREATE, &[0, 0, 127, 1, 0]);
-        // Which comes first makes no difference.
-        let mut calls = [(code::WRITE, task), (code::READ, task + 1)];
-        calls.rotate_left(usize::from(task % 2));
-        calls.iter().for_each(|&(code, asker)| trial.grant(code, &[asker, 0, 127]));
-        trial.grant(code::DELETE, &[0, 0, 127, 1]);
-    }
-    trial.grant(code::MARK, &[64]);
-    trial.must_mark(62, 64..127);
-    trial.grant(code::MARK, &[2]);
-    trial.must_mark(61, 2..127);
-    trial.grant(code::START, &[]);
-    trial.must_mark(0, []);
-}
-
-/// Task 2 drives the file 20 and never writes to it; task 3 reads it.
-#[test]
-fn the_driver_of_what_was_deleted() {
-    let mut trial = Trial::new(2..5);
-    trial.grant(code::WRITE, &[2, 0, 1]);
-    trial.grant(code::CREATE, &[0, 2, 20, 1, 0]);
-    trial.grant(code::READ, &[3, 2, 20]);
-    trial.grant(code::DELETE, &[0, 2, 20, 1]);
-    // The number's next life has another driver, and nobody is fed by it.
-    trial.grant(code::CREATE, &[0, 0, 20, 1, 0]);
-    trial.grant(code::WRITE, &[4, 0, 20]);
-    trial.grant(code::MARK, &[4]);
-    trial.must_mark(1, [4, 20]);
-    trial.grant(code::MARK, &[2]);
-    trial.must_mark(1, [1, 2, 3, 4, 20]);
-}
-
-/// Task 2 drives the file 20 and is marked: the file stays until its reader is marked too.
-#[test]
-fn a_marked_file_stays_until_its_reader_is_marked() {
-    let mut trial = Trial::new(2..4);
-    trial.grant(code::WRITE, &[2, 0, 1]);
-    trial.grant(code::CREATE, &[0, 2, 20, 1, 0]);
-    trial.grant(code::READ, &[3, 2, 20]);
-    trial.grant(code::MARK, &[2]);
-    assert_eq!(trial.ask(code::DELETE, &[0, 2, 20, 1]), FEEDING);
-    trial.must_mark(1, [1, 2, 3, 20]);
-    trial.grant(code::DELETE, &[0, 2, 20, 1]);
-    // The core asked a marked driver.
-    assert!(trial.0.has_flow(0, 2) && trial.0.has_flow(2, 3));
-    trial.must_mark(0, [1, 2, 3]);
-}
-
-// ------------------------------------------------------- lists with a history
-
-const LISTS: u64 = 250;
-const CALLS_OF_A_LIST: usize = 250;
-/// So that not everything is marked, states are made anew now and then.
-const ONE_NEW_STATE_OF: usize = 70;
-/// Tasks do not end: more would leave no numbers for objects.
-const MOST_TASKS: usize = 5;
-
-/// Each code as often as it is asked for.
-const CODES: [(u16, usize); 14] = [
-    (code::READ, 20),
-    (code::WRITE, 20),
-    (code::EXECUTE, 4),
-    (code::CREATE, 16),
-    (code::CREATE_ROOT, 3),
-    (code::MOVE, 2),
-    (code::DELETE, 16),
-    (code::CALL, 1),
-    (code::INVOKE, 1),
-    (code::PASS, 4),
-    (code::POST, 2),
-    (code::FIND, 2),
-    (code::MARK, 1),
-    (code::SPREAD, 3),
-];
-
-/// What must be met in lists, and how often.
-const IN_LISTS: [(&str, u64); 12] = [
-    ("deletion that bridges", 500),
-    ("deletion that bridges from a driver without a flow", 200),
-    ("deletion that bridges bridges", 100),
-    ("deletion refused for what is fed", 100),
-    ("new object of a number used again", 500),
-    ("new task of a number used again", 50),
-    ("mark after a deletion", 200),
-    ("spread that marks something through what has ended", 100),
-    ("spread that leaves something unmarked", 500),
-    ("start in the middle", 50),
-    ("load in the middle", 50),
-    ("refused load in the middle", 50),
-];
-
-/// A list, and how often it met what.
-struct Watched {
-    list: List,
-    times: BTreeMap<&'static str, u64>,
-}
-
-impl Watched {
-    fn count(&mut self, what: &'static str, met: bool) {
-        *self.times.entry(what).or_default() += u64::from(met);
-    }
-
-    fn new_state(&mut self) {
-        let list = &mut self.list;
-        let order = list.order_of_a_new_state();
-        if list.rng.once_in(3) {
-            let verdict = list.perform(Lengths::RIGHT, order, Request::default());
-            return self.count("start in the middle", verdict == 0);
-        }
-        let text = match list.rng.once_in(2) {
-            true => texts::any(&mut list.rng, &list.order),
-            false => texts::written(&texts::granted(&mut list.rng, &list.order, 8)),
-        };
-        let verdict = list.load(Lengths::RIGHT, order, &text);
-        self.count("load in the middle", verdict == 0);
-        self.count("refused load in the middle", verdict > 3);
-    }
-
-    fn code(&mut self) -> u16 {
-        let codes = CODES.iter().flat_map(|&(code, share)| std::iter::repeat_n(code, share));
-        let crowded = self.list.pair.model.state.tasks().count() > MOST_TASKS;
-        match self.list.rng.pick_any(codes).expect("there are codes") {
-            code::EXECUTE if crowded => code::CREATE,
-            code => code,
-        }
-    }
-
-    fn one_call(&mut self) {
-        if self.list.rng.once_in(ONE_NEW_STATE_OF) {
-            return self.new_state();
-        }
-        let code = self.code();
-        let request = self.list.author().request_of(code);
-        let before = self.list.pair.model.state.clone();
-        let bridges = self.has_bridges(request.c);
-        let verdict = self.list.perform(Lengths::RIGHT, self.list.order, request);
-        match code {
-            code::DELETE if verdict == 0 => self.count_deletion(&before, request, bridges),
-            code::DELETE => self.count("deletion refused for what is fed", verdict == FEEDING),
-            code::SPREAD => self.count_spread(&before),
-            code::MARK if verdict == 0 => {
-                self.count("mark after a deletion", self.list.history.has_ended());
-            }
-            code::EXECUTE | code::CREATE | code::CREATE_ROOT if verdict == 0 => {
-                let again = self.list.history.is_used_again(request.c);
-                let task = code == code::EXECUTE;
-                self.count("new task of a number used again", task && again);
-                self.count("new object of a number used again", !task && again);
-            }
-            _ => {}
-        }
-    }
-
-    /// Whether a flow from or to it stands by a bridge alone.
-    fn has_bridges(&self, n: Number) -> bool {
-        let flows = &self.list.pair.model.state.flows;
-        let mut own = flows.iter().filter(|&&(from, to)| from == n || to == n);
-        own.any(|&(from, to)| self.list.history.is_bridge(from, to))
-    }
-
-    fn count_deletion(&mut self, before: &State, asked: Request, bridges: bool) {
-        let Request { a, b: driver, c: object, .. } = asked;
-        let flows = &self.list.pair.model.state.flows;
-        let bridged: Pairs = flows.difference(&before.flows).copied().collect();
-        let bridged: Pairs = bridged.into_iter().filter(|&flow| flow != (a, driver)).collect();
-        let by_right = !before.flows.contains(&(driver, object));
-        let from_driver = by_right && bridged.iter().any(|&(from, _)| from == driver);
-        self.count("deletion that bridges", !bridged.is_empty());
-        self.count("deletion that bridges from a driver without a flow", from_driver);
-        self.count("deletion that bridges bridges", bridges && !bridged.is_empty());
-    }
-
-    fn count_spread(&mut self, before: &State) {
-        let (living, state) = (self.list.living(), &self.list.pair.model.state);
-        let unmarked = living.iter().any(|&n| !state.is_marked(n));
-        let is_new = |n: &Number| state.is_marked(*n) && !before.is_marked(*n);
-        let new: BTreeSet<Number> = living.iter().copied().filter(is_new).collect();
-        let alive = self.list.history.reached(&living, Chains::OfTheLiving);
-        self.count("spread that marks something through what has ended", !new.is_subset(&alive));
-        self.count("spread that leaves something unmarked", unmarked);
-    }
-}
-
-/// After each granted spread what lives is marked exactly where the history leads to it: a
-/// list sees to that itself.
-#[test]
-fn trails_through_what_has_ended() {
-    let first = seed("trails_through_what_has_ended");
-    let mut times = BTreeMap::new();
-    for number in 0..LISTS {
-        let list = List::begin(first.wrapping_add(number), &[6, 8, 10, 14]);
-        let mut watched = Watched { list, times };
-        for _ in 0..CALLS_OF_A_LIST {
-            watched.one_call();
-            watched.list.must_keep_the_limits();
-        }
-        times = watched.times;
-    }
-    for (what, least) in IN_LISTS {
-        let times = times.get(what).copied().unwrap_or(0);
-        println!("of the deletions in lists: {times} times a {what}");
-        assert!(times >= least, "{times} times a {what}");
     }
 }
