@@ -150,7 +150,7 @@ static void check_load(struct tupehiwo_monitor *m)
 {
     const struct tupehiwo_order orders[2] = {{{3, 2}, 2, 1}, {{1}, 1, 0}};
     const char text[] = "(object 10 driver 0 level 0)\n";
-    for (uint8_t verdict = 0; verdict < 16; verdict++) {
+    for (uint8_t verdict = 0; verdict < 17; verdict++) {
         int kept = verdict == TUPEHIWO_STATE || verdict == TUPEHIWO_ORDER;
         m->order = orders[0];
         lent.verdict = verdict;
@@ -185,8 +185,8 @@ static void check_words(void)
     static const char *const words[] = {"granted", "slipped", "state",  "order", "number",
                                         "taken",   "driver",  "place",  "held",  "scale",
                                         "path",    "rule",    "filled", "still", "form",
-                                        "deep",    "unknown"};
-    for (uint8_t verdict = 0; verdict < 17; verdict++)
+                                        "deep",    "feeding", "unknown"};
+    for (uint8_t verdict = 0; verdict < 18; verdict++)
         expect(strcmp(tupehiwo_word(verdict), words[verdict]) == 0, words[verdict]);
     expect(strcmp(tupehiwo_word(256), "unknown") == 0, "the word of 256");
     expect(strcmp(tupehiwo_word((uint64_t)-1), "unknown") == 0, "the word of -1");

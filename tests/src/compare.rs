@@ -6,7 +6,7 @@ use crate::causes::{Loaded, Made};
 use crate::model::{BYTES, Lengths, Model, Number, RECORD, State, THINGS, Tallies, Thing, WORDS};
 use crate::prefix;
 use crate::table::Table;
-use tupehiwo::ffi::{self, Answer, Order, Report, Request, Tally};
+use tupehiwo::ffi::{self, Answer, Order, Report, Request, Tally, code};
 
 /// Memory around what is lent, which must never change. Odd, so that the bytes
 /// lent are not aligned.
@@ -159,13 +159,16 @@ impl Pair {
     /// One call that is lent as much as `lengths` say, and a report after it.
     pub fn perform_with(&mut self, lengths: Lengths, order: Order, request: Request) -> Answer {
         self.calls += 1;
+        let deleting = request.code == code::DELETE;
+        let met = deleting.then(|| self.model.state.clone());
         let (bytes, words, tallies) = self.memory.lend(lengths);
         let answer = ffi::perform(bytes, words, tallies, order, request);
         let expected = self.model.perform(lengths, &order, request);
         if answer != expected {
             self.differ(&order, &request, &format!("answers {answer:?}, model {expected:?}"));
         }
-        let made = Made { state: &self.model.state, lengths, order: &order, request };
+        let state = met.as_ref().unwrap_or(&self.model.state);
+        let made = Made { state, lengths, order: &order, request };
         self.table.count_call(request.code, answer.verdict, made.cause(answer.verdict));
         self.compare_memory(&order, &request);
         self.compare_report(lengths, order, &request);

@@ -6,6 +6,7 @@
 //! - [`texts`]: random layouts and their texts, and [`prefix`]: where a text is none.
 //! - [`compare`]: the library and the model side by side, held equal after each call.
 //! - [`author`]: random calls that look at the state, so that each verdict occurs.
+//! - [`list`]: a list of calls from a start, and [`history`]: what its calls have joined.
 //! - [`worlds`]: random orders and memories, reached from a start or not.
 //! - [`table`]: how often each call gave each verdict, and which pairs cannot occur.
 //! - [`causes`]: the same for the causes that share a verdict.
@@ -14,6 +15,8 @@ pub mod author;
 pub mod cases;
 pub mod causes;
 pub mod compare;
+pub mod history;
+pub mod list;
 pub mod model;
 pub mod prefix;
 pub mod rng;

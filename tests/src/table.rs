@@ -36,9 +36,9 @@ pub const CALLS: [&str; 19] = [
 ];
 
 /// The paper's words, each at the place of its number.
-pub const VERDICTS: [&str; 16] = [
+pub const VERDICTS: [&str; 17] = [
     "granted", "slipped", "state", "order", "number", "taken", "driver", "place", "held", "scale",
-    "path", "rule", "filled", "still", "form", "deep",
+    "path", "rule", "filled", "still", "form", "deep", "feeding",
 ];
 
 /// Which calls can give a verdict, and why no other can.
@@ -52,7 +52,7 @@ const UNKNOWN_CODE: u16 = UNKNOWN as u16;
 const LOADING: u16 = LOAD as u16;
 
 /// The verdicts that not every call can give; 2 and 3 every call can.
-const POSSIBLE: [Possible; 14] = [
+const POSSIBLE: [Possible; 15] = [
     Possible {
         verdict: 0,
         calls: &[0, 1, 2, 3, 4, 5, 6, 7, 8, 9, 10, 11, 12, 13, 14, 15, LOADING, REPORT as u16],
@@ -115,6 +115,7 @@ const POSSIBLE: [Possible; 14] = [
     Possible { verdict: 13, calls: &[code::STEP], why_no_other: "it is no step" },
     Possible { verdict: 14, calls: &[LOADING], why_no_other: "it reads no text" },
     Possible { verdict: 15, calls: &[LOADING], why_no_other: "it reads no text" },
+    Possible { verdict: 16, calls: &[code::DELETE], why_no_other: "it deletes nothing" },
 ];
 
 /// Why a call cannot give a verdict, or `None` if it can.

@@ -179,5 +179,5 @@ fn verdicts_have_their_numbers_and_words() {
         assert_eq!(verdict.to_string(), word);
         assert_eq!(verdict.is_done(), number < 2);
     }
-    assert_eq!(Verdict::from_number(16), None);
+    assert_eq!(Verdict::from_number(17), None);
 }

@@ -2,11 +2,12 @@
 
 use std::collections::{BTreeMap, BTreeSet};
 
-use tupehiwo::ffi::{Order, Request, code};
+use tupehiwo::ffi::{Request, code};
 use tupehiwo_tests::author::Author;
 use tupehiwo_tests::causes::{MOVED, NESTED};
 use tupehiwo_tests::compare::Pair;
-use tupehiwo_tests::model::{Lengths, Model, Number, State, THINGS, at_or_below};
+use tupehiwo_tests::list::List;
+use tupehiwo_tests::model::{Lengths, Number, State};
 use tupehiwo_tests::request;
 use tupehiwo_tests::rng::{Rng, seed};
 use tupehiwo_tests::table::{Table, sum_of};
@@ -14,6 +15,8 @@ use tupehiwo_tests::{texts, worlds};
 
 const LISTS: u64 = 1200;
 const CALLS_OF_A_LIST: usize = 900;
+/// How many numbers new things get.
+const POOLS: [usize; 6] = [4, 7, 10, 16, 30, 127];
 /// Loads, as starts, are rare, so that worlds grow.
 const ONE_LOAD_OF: usize = 300;
 /// Now and then another list is lent: no call looks at what it holds.
@@ -21,140 +24,27 @@ const ONE_LIST_OF: usize = 30;
 const MEMORIES: u64 = 8000;
 const CALLS_ON_A_MEMORY: usize = 12;
 
-/// A list that begins with a granted start or a load, and what it must be judged by.
-struct List {
-    rng: Rng,
-    pair: Pair,
-    /// That of the last granted start, or load past state and order.
-    order: Order,
-    /// The tasks that a granted mark named since then.
-    outside: BTreeSet<Number>,
-    pool: Vec<Number>,
-}
-
-impl List {
-    fn begin(seed: u64) -> List {
-        let mut rng = Rng::new(seed);
-        let order = worlds::order(&mut rng);
-        let mut pair = Pair::new(format!("list of TUPEHIWO_SEED={seed}"));
-        pair.set_tallies(worlds::tallies(&mut rng));
-        if rng.once_in(2) {
-            pair.set_state(worlds::sound_state(&mut rng, &order));
-            pair.set_byte(rng.below(1024), rng.bits() as u8);
-        }
-        let pool = pool(&mut rng);
-        let mut list = List { rng, pair, order, outside: BTreeSet::new(), pool };
-        if list.rng.once_in(3) {
-            list.load(Lengths::RIGHT, order);
-        } else {
-            list.perform(Lengths::RIGHT, order, Request::default());
-        }
-        list
+/// Any call, or a load.
+fn one_call(list: &mut List) {
+    if list.rng.once_in(ONE_LIST_OF) {
+        list.pair.set_tallies(worlds::tallies(&mut list.rng));
     }
-
-    fn one_call(&mut self) {
-        if self.rng.once_in(ONE_LIST_OF) {
-            self.pair.set_tallies(worlds::tallies(&mut self.rng));
-        }
-        if self.rng.once_in(ONE_LOAD_OF) {
-            let order = self.order_of_a_new_state();
-            let lengths = worlds::lengths(&mut self.rng);
-            return self.load(lengths, order);
-        }
-        let mut author = Author {
-            rng: &mut self.rng,
-            state: &self.pair.model.state,
-            order: &self.order,
-            pool: &self.pool,
-        };
-        let request = author.request();
-        let order = self.order_for(request);
-        let lengths = worlds::lengths(&mut self.rng);
-        self.perform(lengths, order, request);
+    let lengths = worlds::lengths(&mut list.rng);
+    if list.rng.once_in(ONE_LOAD_OF) {
+        let order = list.order_of_a_new_state();
+        let text = texts::any(&mut list.rng, &list.order);
+        list.load(lengths, order, &text);
+    } else {
+        let request = list.author().request();
+        let order = list.order_for(request);
+        list.perform(lengths, order, request);
     }
-
-    fn perform(&mut self, lengths: Lengths, order: Order, request: Request) {
-        let granted = self.pair.perform_with(lengths, order, request).verdict == 0;
-        if granted && request.code == code::START {
-            self.order = order;
-            self.outside.clear();
-        }
-        if granted && request.code == code::MARK {
-            self.outside.insert(request.a);
-        }
-    }
-
-    /// A load past state and order makes the state of a start, refused or not.
-    fn load(&mut self, lengths: Lengths, order: Order) {
-        let text = texts::any(&mut self.rng, &self.order);
-        if ![2, 3].contains(&self.pair.load_with(lengths, order, &text).verdict) {
-            self.order = order;
-            self.outside.clear();
-        }
-    }
-
-    fn order_of_a_new_state(&mut self) -> Order {
-        let other = worlds::other_order(&mut self.rng, self.order);
-        if self.rng.once_in(2) { other } else { self.order }
-    }
-
-    /// Starts may have any order, others only where it makes no difference to the
-    /// list: a call performed under another order would leave the lists of the paper.
-    fn order_for(&mut self, request: Request) -> Order {
-        if request.code == code::START {
-            return self.order_of_a_new_state();
-        }
-        let other = worlds::other_order(&mut self.rng, self.order);
-        let model = &self.pair.model;
-        let wanted = self.rng.once_in(25) && is_refused(model, &other, request);
-        if wanted { other } else { self.order }
-    }
-
-    /// From container to container, at most 127 steps lead from every object to a root.
-    fn must_end_at_roots(&self) {
-        let state = &self.pair.model.state;
-        for (n, _) in state.objects() {
-            let steps = state.containers(n).take(THINGS).count();
-            assert!(steps < THINGS, "from {n} no root is reached: {state:?}");
-        }
-    }
-
-    /// The two limits on levels, which every state of a list keeps.
-    fn must_keep_the_limits(&self) {
-        let state = &self.pair.model.state;
-        let level = |n: Number| state.thing(n).ok().and_then(|thing| thing.level());
-        let below = |a: u16, b: u16| at_or_below(&self.order, a, b);
-        let covered = |l: u16| self.outside.iter().any(|&e| level(e).is_some_and(|t| below(l, t)));
-        for (n, thing) in state.used().filter(|(_, thing)| thing.is_marked()) {
-            let contained = thing.level().is_some_and(covered);
-            assert!(contained, "{n} is marked above every task marked from outside: {thing:?}");
-        }
-        for &(from, to) in &state.flows {
-            let (Some(source), Some(end)) = (level(from), level(to)) else {
-                panic!("the flow {from} to {to} joins no two things in use");
-            };
-            assert!(below(end, source) || covered(end), "the flow {from} to {to} rises");
-        }
-    }
-}
-
-/// The numbers that new things get: few for dense worlds, or all of them.
-fn pool(rng: &mut Rng) -> Vec<Number> {
-    let mut numbers: Vec<Number> = (1..128).collect();
-    rng.shuffle(&mut numbers);
-    numbers.truncate(rng.pick(&[4, 7, 10, 16, 30, 127]));
-    numbers
-}
-
-fn is_refused(model: &Model, order: &Order, request: Request) -> bool {
-    let verdict = model.clone().perform(Lengths::RIGHT, order, request).verdict;
-    verdict > 1
 }
 
 fn one_list(seed: u64) -> Table {
-    let mut list = List::begin(seed);
+    let mut list = List::begin(seed, &POOLS);
     for call in 1..=CALLS_OF_A_LIST {
-        list.one_call();
+        one_call(&mut list);
         if call % 100 == 0 {
             list.must_keep_the_limits();
         }

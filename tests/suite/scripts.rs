@@ -47,7 +47,8 @@ fn random_scripts_print_every_verdict() {
         printed.extend(output(&input));
     }
     let text = String::from_utf8(printed).expect("only words and numbers are printed");
-    for verdict in (0..14).map(|verdict| verdict.to_string()).chain(["bad".to_string()]) {
+    let verdicts = (0..14).chain([16]).map(|verdict| verdict.to_string());
+    for verdict in verdicts.chain(["bad".to_string()]) {
         assert!(text.lines().any(|line| line == verdict), "no script printed {verdict}");
     }
 }

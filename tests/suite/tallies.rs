@@ -29,6 +29,7 @@ const PATH: u8 = 10;
 const RULE: u8 = 11;
 const FILLED: u8 = 12;
 const STILL: u8 = 13;
+const FEEDING: u8 = 16;
 
 const TOP: u16 = Q.top;
 
@@ -123,8 +124,8 @@ impl Cast {
         ]
     }
 
-    /// States, and calls that are refused there with a verdict other than 4 and 9, if the
-    /// asker is not the core: for each such verdict a call of each code that can have it.
+    /// States, and calls that are refused there with 5 to 8, 10 or 11, if the asker is not
+    /// the core: for each such verdict a call of each code that can have it.
     fn refused(&self) -> Vec<(State, u8, Vec<Request>)> {
         let &Cast { asker, driver, other, object, from, to, .. } = self;
         let [read, write, execute, create, root, moving, delete, call, invoke, pass, post, find] =
@@ -146,7 +147,6 @@ impl Cast {
         let low = self.driven(0, Some(from));
         let low_object = changed(&[(object, low)]);
         let low_reads = changed(&[(object, low), (asker, task(TOP, 0)), (other, task(TOP, 0))]);
-        let filled = changed(&[(to, self.driven(TOP, Some(object)))]);
         let new = |call| with(call, 2, object);
         let through = |call| with(call, 1, other);
         vec![
@@ -169,8 +169,18 @@ impl Cast {
             (low_asker, RULE, vec![write, create, root, moving, delete, invoke]),
             (low_object, RULE, vec![read, execute]),
             (low_reads, RULE, vec![pass, post]),
-            (filled, FILLED, vec![delete]),
         ]
+    }
+
+    /// The same of deletions alone: the object holds another, or it is marked.
+    fn kept(&self) -> [(State, u8, Vec<Request>); 2] {
+        let &Cast { driver, object, from, to, .. } = self;
+        let [_, _, _, _, _, _, delete, ..] = self.asked();
+        let (mut filled, mut feeding) = (self.state(), self.state());
+        filled.put(to, self.driven(TOP, Some(object)));
+        let marked = Object { level: TOP, driver, container: Some(from), marked: true };
+        feeding.put(object, Thing::Object(marked));
+        [(filled, FILLED, vec![delete]), (feeding, FEEDING, vec![delete])]
     }
 
     /// Calls that no task asks for, though their first number is the asker's, and their
@@ -297,12 +307,13 @@ fn a_slip_counts_on_the_task_that_asks() {
     }
 }
 
-/// With 5 to 8 and 10 to 12, each call that can be: 4 and 9 follow.
+/// With 5 to 8, 10 to 12 and 16, each call that can be: 4 and 9 follow.
 #[test]
 fn every_refusal_counts_on_the_task_that_asks() {
     let mut ledger = Ledger::new("every_refusal_counts_on_the_task_that_asks");
     for asker in numbers().skip(1) {
-        for (state, verdict, calls) in Cast::of(asker).refused() {
+        let cast = Cast::of(asker);
+        for (state, verdict, calls) in cast.refused().into_iter().chain(cast.kept()) {
             for call in calls {
                 ledger.must_raise(asker, verdict, &state, call);
             }

@@ -35,7 +35,7 @@ const HELD: [(u16, &[Reason]); 6] = [
 ];
 
 /// How a level is not at or below another.
-const FAILS: [&str; 2] = ["above", "unrelated"];
+pub const FAILS: [&str; 2] = ["above", "unrelated"];
 
 /// How neither a level nor a read level is at or below another.
 const BOTH_FAIL: [&str; 4] = [
@@ -47,14 +47,13 @@ const BOTH_FAIL: [&str; 4] = [
 
 /// Whose level is too low for a rule. "Slipping" is where the honest test fails too,
 /// under a marked driver.
-const RULES: [(u16, &[&str]); 10] = [
+const RULES: [(u16, &[&str]); 9] = [
     (code::READ, &["driver", "driver, slipping"]),
     (code::WRITE, &["driver", "driver, slipping", "task"]),
     (code::EXECUTE, &["image", "the new task itself"]),
     (code::CREATE, &["creator", "container", "driver"]),
     (code::CREATE_ROOT, &["creator", "driver"]),
     (code::MOVE, &["driver", "driver, slipping", "to", "to, slipping", "task"]),
-    (code::DELETE, &["task", "driver"]),
     (code::INVOKE, &["invoker"]),
     (code::PASS, &["object", "driver"]),
     (code::POST, &["object", "driver"]),
@@ -105,9 +104,9 @@ fn all_done() -> Vec<(u8, u16, Reason)> {
     for marked in &MARKED[2..] {
         all.extend(SLIPPED_BY.map(|how| (1, code::READ, (*marked, how))));
     }
-    use code::{CREATE, CREATE_ROOT, DELETE, EXECUTE, INVOKE, WRITE};
+    use code::{CREATE, CREATE_ROOT, EXECUTE, INVOKE, WRITE};
     for marked in [MARKED[0], MARKED[2]] {
-        let codes = [WRITE, EXECUTE, CREATE, CREATE_ROOT, DELETE, INVOKE];
+        let codes = [WRITE, EXECUTE, CREATE, CREATE_ROOT, INVOKE];
         all.extend(codes.map(|code| (0, code, (marked, "done"))));
         all.extend(MOVED.map(|how| (0, code::MOVE, (marked, how))));
     }
@@ -186,7 +185,7 @@ fn path(made: &Made) -> Option<Reason> {
 }
 
 /// How level a is not at or below b; `None` if it is.
-fn fails(order: &Order, a: u16, b: u16) -> Option<&'static str> {
+pub fn fails(order: &Order, a: u16, b: u16) -> Option<&'static str> {
     let above = at_or_below(order, b, a);
     (!at_or_below(order, a, b)).then_some(FAILS[usize::from(!above)])
 }
@@ -216,9 +215,6 @@ fn broken_rules(made: &Made) -> Option<Vec<Reason>> {
             ("driver", fails(e, task(b)?)),
         ],
         code::CREATE_ROOT => vec![("creator", fails(d, task(a)?)), ("driver", fails(d, task(b)?))],
-        code::DELETE => {
-            vec![("task", fails(object(c)?, task(a)?)), ("driver", fails(object(c)?, task(b)?))]
-        }
         code::INVOKE => vec![("invoker", fails(task(b)?, task(a)?))],
         code::PASS => risky_halves(made, a, b)?,
         _ => risky_halves(made, c, b)?,

@@ -4,11 +4,13 @@
 //! A cause is told only where it is the single one of its row of the paper's
 //! table: a monitor without that one test would have answered otherwise.
 
+mod deletions;
 mod events;
 mod loads;
 mod memory;
 mod numbers;
 
+pub use deletions::{DELETED, FEEDS};
 pub use events::{MOVED, NESTED};
 pub use loads::Loaded;
 pub use numbers::how_many;
@@ -43,8 +45,8 @@ impl fmt::Display for Cause {
     }
 }
 
-/// A call as it was made, on the state that it left. That is the state before it
-/// for a refusal; what is looked at for another verdict is not changed by the call.
+/// A call as it was made. A deletion is judged on the state that it met, any other call on
+/// the one that it left: what is looked at there, it does not change.
 pub struct Made<'a> {
     pub state: &'a State,
     pub lengths: Lengths,
@@ -61,6 +63,9 @@ impl Made<'_> {
             2 => (None, memory::cause(self.state, self.lengths, self.order, starting)?),
             3 => (Some(code::START.into()).filter(|_| starting), memory::order_cause(self.order)?),
             4 | 5 | 9 => (call, numbers::cause(self, verdict)?),
+            0 | 11.. if self.request.code == code::DELETE => {
+                (call, deletions::cause(self, verdict)?)
+            }
             _ => (call, events::cause(self, verdict)?),
         };
         Some(Cause { verdict, call, loading: false, reason })
@@ -80,7 +85,7 @@ pub fn all() -> BTreeSet<Cause> {
         let call = starting.then_some(code::START.into());
         (3, call, reason)
     });
-    let of_calls = numbers::all().into_iter().chain(events::all());
+    let of_calls = numbers::all().into_iter().chain(events::all()).chain(deletions::all());
     let of_calls = of_calls.map(|(verdict, code, reason)| (verdict, Some(code.into()), reason));
     let causes = memory.chain(orders).chain(of_calls);
     let cause = |(verdict, call, reason)| Cause { verdict, call, loading: false, reason };

@@ -1,5 +1,7 @@
 //! The events: each tests in the order of the paper's table, then records.
 
+use std::collections::BTreeSet;
+
 use super::state::{Mark, Number, Object, Pairs, State, Task, Thing};
 use super::{Outcome, Verdict, at_or_below, require};
 use tupehiwo::ffi::Order;
@@ -123,7 +125,13 @@ impl Event<'_> {
         require(self.le(object.level, driver.level), Verdict::Rule)?;
         let filled = self.state.objects().any(|(_, inner)| inner.container == Some(o));
         require(!filled, Verdict::Filled)?;
+        let fed = self.state.fed_by(o);
+        let all_marked = fed.iter().all(|&q| self.state.is_marked(q));
+        require(!object.marked || all_marked, Verdict::Feeding)?;
 
+        let mut feeders = self.state.feeders_of(o);
+        feeders.insert(d);
+        self.bridge(&feeders, &fed);
         self.state.put(o, Thing::Free);
         let state = &mut self.state;
         for pairs in [&mut state.flows, &mut state.reads, &mut state.writes] {
@@ -200,6 +208,15 @@ impl Event<'_> {
 
     fn flow(&mut self, from: Number, to: Number) {
         self.state.flows.insert((from, to));
+    }
+
+    /// Each of the first feeds each of the others, and none itself.
+    fn bridge(&mut self, feeders: &BTreeSet<Number>, fed: &BTreeSet<Number>) {
+        for &p in feeders {
+            for &q in fed.iter().filter(|&&q| q != p) {
+                self.flow(p, q);
+            }
+        }
     }
 
     /// Asking task, driver and existing object: verdicts 4 and 6.

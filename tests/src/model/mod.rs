@@ -35,6 +35,7 @@ pub enum Verdict {
     Still = 13,
     Form = 14,
     Deep = 15,
+    Feeding = 16,
 }
 
 /// `Ok` if the call is performed (granted or slipped), `Err` if it is refused.

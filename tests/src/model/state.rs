@@ -224,6 +224,18 @@ impl State {
         self.containers(object).take(THINGS).any(|outer| outer == object)
     }
 
+    /// The other things in use that a thing has a flow to.
+    pub fn fed_by(&self, n: Number) -> BTreeSet<Number> {
+        let fed = self.flows.range((n, 0)..=(n, Number::MAX)).map(|&(_, to)| to);
+        fed.filter(|&to| to != n && self.thing(to).is_ok()).collect()
+    }
+
+    /// The other things in use with a flow to a thing.
+    pub fn feeders_of(&self, n: Number) -> BTreeSet<Number> {
+        let feeders = self.flows.iter().filter(|&&(_, to)| to == n).map(|&(from, _)| from);
+        feeders.filter(|&from| from != n && self.thing(from).is_ok()).collect()
+    }
+
     pub fn is_marked(&self, n: Number) -> bool {
         self.things.get(usize::from(n)).is_some_and(Thing::is_marked)
     }

@@ -1,0 +1,1 @@
+s/^    bridge(s, object);$/    add(s, FLOWS, task, object);\n&/

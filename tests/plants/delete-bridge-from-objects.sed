@@ -1,0 +1,1 @@
+/^static void bridge(struct state \*s, unsigned object)$/,/^}/s/!used(s, p)/(!is(s, p, OBJECT) \&\& p != driver)/

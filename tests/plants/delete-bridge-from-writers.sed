@@ -1,0 +1,1 @@
+/^static void bridge(struct state \*s, unsigned object)$/,/^}/s/!has(s, FLOWS, p, object))/!has(s, FLOWS, p, object) \&\& !has(s, WRITES, p, object))/

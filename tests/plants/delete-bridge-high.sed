@@ -1,0 +1,1 @@
+/^static void bridge(struct state \*s, unsigned object)$/,/^}/{/flows\[0\] |= /d}

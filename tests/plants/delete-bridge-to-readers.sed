@@ -1,0 +1,1 @@
+/^static void bridge(struct state \*s, unsigned object)$/,/^}/s/^    unsigned driver = .*$/&\n    for (unsigned q = 0; q < THINGS; q++)\n        if (used(s, q) \&\& has(s, READS, q, object))\n            put(things.words, q);/

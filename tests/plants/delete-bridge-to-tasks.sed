@@ -1,0 +1,1 @@
+/^static void bridge(struct state \*s, unsigned object)$/,/^}/s/^    unsigned driver = .*$/&\n    for (unsigned q = 0; q < THINGS; q++)\n        if (is(s, q, OBJECT))\n            things.words[q \/ 64] \&= ~(UINT64_C(1) << (q % 64));/

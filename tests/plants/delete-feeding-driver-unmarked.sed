@@ -1,0 +1,1 @@
+s/marked(s, object) && feeds_unmarked(s, object)/marked(s, object) \&\& !marked(s, driver) \&\& feeds_unmarked(s, object)/

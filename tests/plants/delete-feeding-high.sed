@@ -1,0 +1,1 @@
+/^static int feeds_unmarked(const struct state \*s, unsigned n)$/,/^}/{s/!empty(&things);)/!empty(\&things);) {\n        unsigned q = take(\&things);/;s/if (!marked(s, take(&things)))/if (!marked(s, q) \&\& q >= 64)/;s/^            return 1;$/&\n    }/}

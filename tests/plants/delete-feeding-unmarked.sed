@@ -1,0 +1,1 @@
+s/marked(s, object) && feeds_unmarked(s, object)/feeds_unmarked(s, object)/

@@ -1,0 +1,1 @@
+s/^    bridge(s, object);$/    (void)bridge;/

@@ -1,0 +1,1 @@
+/^static void clear(/,/^}/s/kind <= WRITES/kind < WRITES/

@@ -1,0 +1,1 @@
+/^static void clear(/,/^}/s/unsigned kind = FLOWS;/unsigned kind = READS;/

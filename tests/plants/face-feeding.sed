@@ -1,0 +1,1 @@
+s/"deep",    "feeding"}/"deep"}/
