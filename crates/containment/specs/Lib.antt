@@ -3,6 +3,7 @@ pub mod Chains
 pub mod TallyLists
 pub mod Claims
 pub mod History
+pub mod HistoryTrials
 pub mod TrailClaims
 pub mod TallyClaims
 pub mod Roots
