@@ -28,4 +28,5 @@ pub mod OneCall
 pub mod Joins
 pub mod Trails
 pub mod Direct
+pub mod LoadHistory
 pub mod Proved
