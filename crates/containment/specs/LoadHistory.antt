@@ -7,7 +7,7 @@ use mathlib.Core.List.{List, [], _∷_, _++_, map}
 use Prim.Native.Nat.{ℕ, suc}
 use lib.Dec.{eqb}
 use borrow.Author.Tests.{eqb-true, eq-eqb, ltb-true, not-true}
-use Rattle.bits.specs.AllLaws.{or-cases, or-l, or-r, and-i, and-l, and-r, and-false}
+use Rattle.bits.specs.AllLaws.{or-cases, or-l, or-r, and-i, and-l, and-r}
 use Rattle.rows.specs.Size.{Size, numbersOf}
 use Rattle.levels.specs.declared.Order.{Order}
 use Rattle.layout.specs.Layout as layout
@@ -23,7 +23,7 @@ use Rattle.model.specs.Load.{innerCalls, formCalls, layoutCalls, load}
 use Rattle.model.specs.TableLaws.{Happened, refusals, event-done}
 use Rattle.containment.specs.Lists.{asks, StandingOf, other, role, entered, next, run, leaves, begun}
 use Rattle.containment.specs.Claims.{AllGranted}
-use Rattle.containment.specs.TrailClaims.{SameHistory, LoadHistory}
+use Rattle.containment.specs.TrailClaims.{LoadHistory}
 use Rattle.containment.specs.History.{Life, History, isNow, every, counts, joins, endedBy, grown, anew, enters, after, history, historyOf}
 use Rattle.containment.specs.Reach.{Grows}
 use Rattle.containment.specs.Carries.{AllQuiet, effects-grow}
