@@ -34,6 +34,7 @@ Origin m n E = (x : ℕ) → inUse n x ≡ true → marked n x ≡ true → Reac
 abbrev pub Naming : {size : Size} → MemoryOf size → (ℕ → Type 0) → Type 0
 Naming n E = (y : ℕ) → E y → (inUse n y ≡ true) × (marked n y ≡ true)
 
+-- what has to stay
 pub record Carries {size : Size} (m n : MemoryOf size) (E : ℕ → Type 0) : Type 0 where
   -- A: a path between two things that live before and after is there after
   pub paths : (x y : ℕ) → inUse n x ≡ true → inUse n y ≡ true → Path m x y → Path n x y
@@ -46,7 +47,7 @@ pub record Carries {size : Size} (m n : MemoryOf size) (E : ℕ → Type 0) : Ty
 abbrev pub Nobody : ℕ → Type 0
 Nobody y = ⊥
 
--- where nothing is marked that was not
+-- where nothing is marked that was not, marks come along paths
 pub same-origin : {size : Size} (m n : MemoryOf size) (E : ℕ → Type 0) → Long n
     → ((x : ℕ) → inUse n x ≡ true → marked n x ≡ true → (inUse m x ≡ true) × (marked m x ≡ true)) → Origin m n E
 same-origin m n E l h x u k = at x (used-below n x (l .bytes-long) u) u (inl (h x u k))
@@ -82,11 +83,6 @@ Quiet m (clear x) = ⊥
 Quiet m (mark-outside e) = task m e ≡ true
 Quiet m (mark-thing x) = Unit {0}
 
--- the same byte, the same mark
-same-marked : {size : Size} (m n : MemoryOf size) (x : ℕ) → field (n .bytes) x 5 ≡ field (m .bytes) x 5 → marked n x ≡ marked m x
-unfolding marked
-same-marked m n x e = rw e
-
 -- words change, and no flow goes
 words-grow : {size : Size} (m : MemoryOf size) (ws : List ℕ) → ((x y : ℕ) → hasFlow m x y ≡ true → hasFlow (withWords m ws) x y ≡ true) → Grows m (withWords m ws)
 unfolding inUse object isObject marked
@@ -115,7 +111,7 @@ module _ {size : Size} (m : MemoryOf size) (long : Long m) where
 
   -- an effect that clears nothing only adds
   effect-grows : (e : Effect) → Quiet m e → Grows m (effect e m)
-  unfolding effect hasFlow
+  unfolding effect hasFlow marked
   effect-grows (flow x y) q = words-grow m _ (λ u v h. add-kept (rowSizeOf size) (m .words) x y u v h)
   effect-grows (flow-if true x y) q = words-grow m _ (λ u v h. add-kept (rowSizeOf size) (m .words) x y u v h)
   effect-grows (flow-if false x y) q = words-grow m _ (λ u v h. h)
@@ -131,10 +127,7 @@ module _ {size : Size} (m : MemoryOf size) (long : Long m) where
       (λ x u h. marked-after x (make-object n l d c b) m long (q .0, tt) ∙ rw (ne-eqb x n (apart x n (q .1) u)) h)
   effect-grows (move-to y c) q =
       bytes-grow m _ refl (λ x f lf u. field-else (m .bytes) y 4 c x f (omega arith) (omega arith) (inr (omega arith)))
-      (λ x u h. moved x (field-else (m .bytes) y 4 c x 5 (omega arith) (omega arith) (inr (omega arith))) h)
-    where
-      moved : (x : ℕ) → field (effect (move-to y c) m .bytes) x 5 ≡ field (m .bytes) x 5 → marked m x ≡ true → marked (effect (move-to y c) m) x ≡ true
-      moved x e h = same-marked m (effect (move-to y c) m) x e ∙ h
+      (λ x u h. rw (field-else (m .bytes) y 4 c x 5 (omega arith) (omega arith) (inr (omega arith))) h)
   effect-grows (bridge x) q = words-grow m _ (λ u v h. bridged-kept (rowSizeOf size) (numbersOf size) (feeder m x) (fedBy m x) (m .words) u v h)
   effect-grows (clear x) q = absurd q
   effect-grows (mark-outside e) q =
@@ -146,16 +139,18 @@ module _ {size : Size} (m : MemoryOf size) (long : Long m) where
 
 -- ---- lists of them
 
+-- each, after those before it
 abbrev pub AllQuiet : {size : Size} → MemoryOf size → List Effect → Type 0
 AllQuiet m [] = Unit {0}
 AllQuiet m (e ∷ es) = Quiet m e × AllQuiet (effect e m) es
 
+-- together they only add
 pub effects-grow : {size : Size} (m : MemoryOf size) → Long m → (es : List Effect) → AllQuiet m es → Grows m (effects es m)
 unfolding effects
 effects-grow m l [] q = grows-none m
 effects-grow m l (e ∷ es) q = grows-then (effect-grows m l e (q .0)) (effects-grow (effect e m) (effect-long e l) es (q .1))
 
--- where they mark nothing
+-- and keep paths, where they mark nothing
 pub quiet-carries : {size : Size} (m : MemoryOf size) → Long m → (es : List Effect) → AllQuiet m es
     → ((x : ℕ) → inUse (effects es m) x ≡ true → marked (effects es m) x ≡ true → (inUse m x ≡ true) × (marked m x ≡ true)) → Carries m (effects es m) Nobody
 quiet-carries m long es q h =

@@ -80,7 +80,8 @@ module _ {size : Size} (o : Order) where
     below : (x : ℕ) → inUse m x ≡ true → x < numbersOf size
     below x = used-below m x (long .bytes-long)
 
-    unmarked : (x : ℕ) → marked m x ≡ false
+    -- so nothing is marked
+    pub unmarked : (x : ℕ) → marked m x ≡ false
     unmarked x = not-so _ (λ h. List·Memᴰ·not-nil (i .limits .bounded x (marked-below m x (long .bytes-long) h) .mark-covered h .1))
 
     stands-on : (c : Call) → role c ≡ other → isDone (perform o m c .verdict) ≡ true → Stands (perform o m c .memory)

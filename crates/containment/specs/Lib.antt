@@ -29,4 +29,5 @@ pub mod OneCall
 pub mod Joins
 pub mod Trails
 pub mod Direct
+pub mod LoadHistory
 pub mod Proved

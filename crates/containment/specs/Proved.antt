@@ -1,4 +1,4 @@
--- The claims of demand 3, proved: those about lists here, that a spread is exact, what a load gives and leaves and what becomes of tallies in files of their own.
+-- The claims of demand 3, proved: those about lists here, that a spread is exact, that the trail is exact, what a load gives and leaves and what becomes of tallies in files of their own.
 -- Assumes nothing.
 use mathlib.Core.Path.{_≡_, refl, sym, ap, _∙_}
 use mathlib.Core.Bool.{true, false, and-eq-true-iff, true≢false, false≢true}
@@ -40,6 +40,7 @@ use Rattle.containment.specs.Witness.{upward, upward-granted, upward-mar
 pub use Rattle.containment.specs.SpreadProof.{spread-exact}
 pub use Rattle.containment.specs.Trails.{trail-exact}
 pub use Rattle.containment.specs.Direct.{trail-direct}
+pub use Rattle.containment.specs.LoadHistory.{load-history}
 pub use Rattle.containment.specs.PlaceProof.{inside-exact, move-place}
 pub use Rattle.containment.specs.LoadProof.{layout-gives, load-gives, loads-sound, refused-load, untouched-by-load, load-is-list, load-tells, load-rows}
 pub use Rattle.containment.specs.TallyProof.{another-length, never-tested, refusal-keeps, refused-load-keeps, others-kept, all-asked, on-asker, on-record-zero, begun-anew, tallies-apart, whole-reached}

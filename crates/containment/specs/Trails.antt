@@ -1,9 +1,9 @@
 -- The history along a list, whichever flows count; and the trail is exact.
 -- Assumes nothing.
 use mathlib.Core.Path.{_≡_, refl, sym, ap, subst, _∙_}
-use mathlib.Core.Bool.{true}
+use mathlib.Core.Bool.{true, true≢false}
 use mathlib.Core.Logic.{_⊎_, inl, inr, ⊎-elim, _↔_}
-use mathlib.Core.List.{List, [], _∷_, List·Memᴰ, List·Memᴰ·head, List·Memᴰ·tail, List·Memᴰ·cases-cons, List·Memᴰ·not-nil}
+use mathlib.Core.List.{List, [], _∷_, List·Memᴰ, List·Memᴰ·head, List·Memᴰ·tail, List·Memᴰ·cases-cons}
 use Prim.Native.Nat.{ℕ}
 use Rattle.bits.specs.AllLaws.{either}
 use Rattle.rows.specs.Size.{Size}
@@ -12,7 +12,7 @@ use Rattle.model.specs.declared.Call.{Call}
 use Rattle.model.specs.declared.Call.the-variants.{Start, Read, Write, Execute, Create, CreateRoot, Move, Delete, CallTask, Invoke, Pass, Post, Find, Mark, Step, Spread}
 use Rattle.model.specs.Verdicts.{granted, isDone}
 use Rattle.model.specs.State.{MemoryOf, inUse, marked, hasFlow}
-use Rattle.model.specs.StateLaws.{used-below, marked-below}
+use Rattle.model.specs.StateLaws.{used-below}
 use Rattle.model.specs.EffectLaws.{Long, fit-long}
 use Rattle.model.specs.Spread.{spread}
 use Rattle.model.specs.Monitor.{perform}
@@ -25,6 +25,7 @@ use Rattle.containment.specs.Lists.{Item, asks, reports, loads, Standing
 use Rattle.containment.specs.TrailClaims.{Trailed, TrailExact}
 use Rattle.containment.specs.Invariant.{standing, Invariant}
 use Rattle.containment.specs.CallsKeep.{NoStart, start-keeps}
+use Rattle.containment.specs.LayoutCalls.{unmarked}
 use Rattle.containment.specs.ItemsKeep.{load-keeps, begun-keeps}
 use Rattle.containment.specs.History.{Life, History, lifeOf, Trail, from, onward, Counting, every, counts, grown, anew, enters, after, history, historyOf}
 use Rattle.containment.specs.Reach.{at, along, down, Path, Fed}
@@ -45,13 +46,13 @@ pub record Counted {size : Size} (k : Counting) (c : Call) (m n : MemoryOf size)
 
 -- where no task is named, nothing is marked
 anew-kept : {size : Size} (o : Order) (m : MemoryOf size) → Invariant (standing o m []) → Kept m (anew m)
-anew-kept {size} o m i = (anew-traced m long unmarked, anew-told m long unmarked)
+anew-kept {size} o m i = (anew-traced m long clean, anew-told m long clean)
   where
     long : Long m
     long = fit-long m (i .limits .fits)
 
-    unmarked : (x : ℕ) → marked m x ≡ true → ⊥
-    unmarked x q = List·Memᴰ·not-nil (i .limits .bounded x (marked-below m x (long .bytes-long) q) .mark-covered q .1)
+    clean : (x : ℕ) → marked m x ≡ true → ⊥
+    clean x q = true≢false (sym q ∙ unmarked o m i x)
 
 -- ---- every call
 
@@ -98,10 +99,13 @@ call-kept : {size : Size} (k : Counting) (o : Order) (m : MemoryOf size) (c : Ca
     → (NoStart (role c) → Counted k c m (perform o m c .memory)) → Kept m h → Kept (perform o m c .memory) (enters (counts k c m (perform o m c .memory)) (role c) m (perform o m c .memory) h)
 unfolding enters
 call-kept {size} k o m c h d t kept =
-    ⊎-elim (λ e. subst (λ (a : Call). Kept (perform o m a .memory) (enters (counts k a m (perform o m a .memory)) (role a) m (perform o m a .memory) h)) (sym e) (started (subst (λ (a : Call). isDone (perform o m a .verdict) ≡ true) e d)))
+    ⊎-elim (λ e. subst Left (sym e) (started (subst (λ (a : Call). isDone (perform o m a .verdict) ≡ true) e d)))
     (λ w. enters-kept k c m (perform o m c .memory) h (fit-long _ (leaves-sound size o m c d .0)) (t w) kept (role c) w (call-carries o m c w d))
     (start-or-not c)
   where
+    Left : Call → Type 0
+    Left a = let n = perform o m a .memory in Kept n (enters (counts k a m n) (role a) m n h)
+
     started : isDone (perform o m Start .verdict) ≡ true → Kept (perform o m Start .memory) (anew (perform o m Start .memory))
     started e = anew-kept o (perform o m Start .memory) (start-keeps o m e)
 
