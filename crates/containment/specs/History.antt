@@ -95,7 +95,7 @@ module _ {size : Size} where
         named = ts;
       }
 
-  -- "This history begins anew whenever the state of a start is made, by a load too": the calls of a load delete nothing, so what they joined is joined in what it leaves
+  -- "This history begins anew whenever the state of a start is made, by a load too": what the calls of a load joined is joined in what it leaves (claim LoadHistory)
   unfoldable pub anew : MemoryOf size → History
   anew n = grown (hasFlow n) n n [] (record { ended = λ x. 0; joined = λ a b. false; named = [] })
 
