@@ -16,7 +16,7 @@ use Rattle.records.specs.Records.{field}
 use Rattle.sets.specs.declared.Set.{Set}
 use Rattle.sets.specs.Sets.{has, setOf}
 use Rattle.sets.specs.SetLaws.{in-set, set-ext, empty-at}
-use Rattle.model.specs.State.{Memory, memory, inUse, object, marked, hasFlow}
+use Rattle.model.specs.State.{Memory, inUse, object, marked, hasFlow}
 use Rattle.model.specs.Effects.{objectOf, feeder, fedBy, bridge, withWords, effect}
 use Rattle.model.specs.Events.{feedsUnmarked}
 

@@ -167,10 +167,9 @@ fn last_rows(bytes: &[u8], words: &[u64], x: u16, verdict: u8) -> u8
     if verdict != GRANTED {
         return verdict;
     }
-    if !is_empty(bytes, x) {
-        return FILLED;
-    }
-    unless(!feeds_unmarked(bytes, words, x), FEEDING, verdict)
+    let empty = is_empty(bytes, x);
+    let row = unless(!feeds_unmarked(bytes, words, x), FEEDING, verdict);
+    unless(empty, FILLED, row)
 }
 
 fn delete_rows(bytes: &[u8], words: &[u64], e: u16, d: u16, x: u16, k: u16, rest: u8) -> u8

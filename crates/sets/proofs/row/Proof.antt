@@ -1,5 +1,3 @@
-use mathlib.Core.List.{List}
-use Prim.Native.Nat.{ℕ}
 use borrow.Author.Needs.{needs}
 use Rattle.bits.specs.WordsLaws.{Fit}
 use Rattle.sets.specs.SetLaws.{fits, set-is, has-row}
