@@ -417,7 +417,7 @@ fn deletions_on_any_memory() {
     let mut rng = Rng::new(seed("deletions_on_any_memory"));
     let mut pair = Pair::new("deletions on any memory");
     let mut times = [0; 9];
-    for (state, deletion) in (0..6000).filter_map(|_| any_deletion(&mut rng)) {
+    for (state, deletion) in (0..8000).filter_map(|_| any_deletion(&mut rng)) {
         let object = deletion.object;
         let is_kept = state.is_marked(object)
             && state.flows.iter().any(|&(from, to)| {
@@ -442,7 +442,7 @@ fn deletions_on_any_memory() {
     let refused = FEEDS.map(|whom| (causes.times(16, whom), whom));
     let granted = DELETED.map(|what| (causes.times(0, what), what));
     println!("{refused:?} {granted:?}");
-    assert!(refused.into_iter().chain(granted).all(|(times, _)| times > 20));
+    assert!(refused.into_iter().chain(granted).all(|(times, _)| times > 10));
 }
 
 // ---------------------------------------------------------- what comes before
