@@ -78,13 +78,13 @@ static int filled(const struct state *s, unsigned container)
 /* The things in use, other than n, that n has a flow to. */
 static struct set fed_things(const struct state *s, unsigned n)
 {
-    struct set things = {{0, 0}}, ends = things;
-    join(&ends, row(s, FLOWS, n));
-    while (!empty(&ends)) {
-        unsigned x = take(&ends);
-        if (x != n && used(s, x))
-            put(things.words, x);
-    }
+    struct set things = {{0, 0}};
+    for (unsigned w = 0; w < 2; w++)
+        for (uint64_t rest = row(s, FLOWS, n)[w]; rest != 0; rest &= rest - 1) {
+            unsigned x = 64 * w + (unsigned)__builtin_ctzll(rest);
+            if (x != n && used(s, x))
+                things.words[w] |= rest & -rest;
+        }
     return things;
 }
 
@@ -104,14 +104,11 @@ static void bridge(struct state *s, unsigned object)
     if (empty(&things))
         return;
     for (unsigned p = 0; p < THINGS; p++) {
-        if (p == object || !used(s, p) || (p != driver && !has(s, FLOWS, p, object)))
+        uint64_t *flows = row(s, FLOWS, p), itself = UINT64_C(1) << (p % 64);
+        if (p == object || !used(s, p) || (p != driver && !holds(flows, object)))
             continue;
-        uint64_t *flows = row(s, FLOWS, p);
-        int itself = holds(flows, p);
-        flows[0] |= things.words[0];
-        flows[1] |= things.words[1];
-        if (!itself)
-            flows[p / 64] &= ~(UINT64_C(1) << (p % 64));
+        flows[0] |= things.words[0] & ~(p < 64 ? itself : 0);
+        flows[1] |= things.words[1] & ~(p < 64 ? 0 : itself);
     }
 }
 

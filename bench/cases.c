@@ -1,5 +1,7 @@
 #include "cases.h"
 
+#include <stdio.h>
+#include <stdlib.h>
 #include <string.h>
 
 #include "texts.h"
@@ -22,6 +24,18 @@ static void fill_and_use(struct item *item, const struct plan *plan)
 {
     fill_world(&item->world, plan->things);
     use_world(&item->world);
+}
+
+/* So many numbers from the first on, in random order. */
+static void shuffle(struct world *w, unsigned first, unsigned *numbers, unsigned count)
+{
+    for (unsigned i = 0; i < count; i++) {
+        unsigned place = draw(&w->random, i + 1), drawn;
+        numbers[i] = first + i;
+        drawn = numbers[place];
+        numbers[place] = numbers[i];
+        numbers[i] = drawn;
+    }
 }
 
 /* ----------------------------------------------------------------- events */
@@ -128,6 +142,59 @@ static void build_start_down(struct item *item, const struct plan *plan)
     item->world.m.order = down;
 }
 
+/* -------------------------------------------------------------- deletions */
+
+enum { SOME = 10, ALL_OTHERS = TUPEHIWO_THINGS - 2 };
+
+/*
+ * Flows from a thing to an object of the core's, and back; all is at the top. To and from
+ * another object the core passes them on, which has to have its own flows before.
+ */
+static void tie(struct world *w, unsigned n, unsigned object)
+{
+    unsigned task = kind_of(w, n) == TASK ? n : CORE, other = task == n ? object : n;
+    must(w, TUPEHIWO_CODE_WRITE, task, driver_of(w, other), other, 0, 0);
+    must(w, TUPEHIWO_CODE_READ, task, driver_of(w, other), other, 0, 0);
+    if (other == n) {
+        must(w, TUPEHIWO_CODE_PASS, CORE, n, object, 0, 0);
+        must(w, TUPEHIWO_CODE_PASS, CORE, object, n, 0, 0);
+    }
+}
+
+/*
+ * The last object is deleted from the image. So many things feed it and are fed by it, and
+ * no others: the core, which is its driver, and things that are drawn, the image aside.
+ */
+static void build_delete(struct item *item, const struct plan *plan, unsigned tied)
+{
+    struct world *w = &item->world;
+    unsigned object = plan->things - 1, others[TUPEHIWO_THINGS] = {CORE};
+    fill_world(w, object);
+    use_world(w);
+    must(w, TUPEHIWO_CODE_WRITE, CORE, CORE, IMAGE, 0, 0);
+    must(w, TUPEHIWO_CODE_CREATE, CORE, CORE, object, IMAGE, plan->levels - 1);
+    w->things++;
+    shuffle(w, FIRST_TASK, others + 1, object - FIRST_TASK);
+    for (unsigned i = 0; i < tied; i++)
+        tie(w, others[i], object);
+    request(item, TUPEHIWO_CODE_DELETE, CORE, CORE, object, IMAGE, 0);
+}
+
+static void build_delete_untied(struct item *item, const struct plan *plan)
+{
+    build_delete(item, plan, 0);
+}
+
+static void build_delete_some(struct item *item, const struct plan *plan)
+{
+    build_delete(item, plan, SOME);
+}
+
+static void build_delete_all_others(struct item *item, const struct plan *plan)
+{
+    build_delete(item, plan, ALL_OTHERS);
+}
+
 /* ------------------------------------------------------------------ moves */
 
 enum { NOWHERE = 255, CHAIN = 120 };
@@ -162,24 +229,12 @@ static void build_move_of_roots(struct item *item, const struct plan *plan)
     move(item, object, from, to);
 }
 
-/* So many numbers from the first that is free, in random order. */
-static void shuffle(struct world *w, unsigned *numbers, unsigned count)
-{
-    for (unsigned i = 0; i < count; i++) {
-        unsigned place = draw(&w->random, i + 1), drawn;
-        numbers[i] = w->things + i;
-        drawn = numbers[place];
-        numbers[place] = numbers[i];
-        numbers[i] = drawn;
-    }
-}
-
 /* The numbers are drawn, so that no order of them makes the chain quick to follow. */
 static void build_containers(struct item *item, const struct plan *plan, unsigned n[PLACES])
 {
     struct world *w = &item->world;
     unsigned top = plan->levels - 1;
-    shuffle(w, n, PLACES);
+    shuffle(w, w->things, n, PLACES);
     add_object(w, n[ROOT], NOWHERE, top);
     for (unsigned i = TOP; i <= BOTTOM; i++)
         add_object(w, n[i], n[i - 1], top);
@@ -349,6 +404,9 @@ const struct bench_case cases[] = {
     {"invoke", build_invoke, FIRST_THINGS, 1},
     {"call_by_the_last_task", build_call_by_last, FIRST_THINGS, 1},
     {"delete_and_create", build_remade, FIRST_THINGS + 1, 1},
+    {"delete_with_no_flows", build_delete_untied, FIRST_THINGS + 1, 0},
+    {"delete_with_10_feeders_10_fed", build_delete_some, SOME + 2, 0},
+    {"delete_with_126_feeders_126_fed", build_delete_all_others, TUPEHIWO_THINGS, 0},
     {"move_between_roots", build_move_of_roots, FIRST_THINGS + 3, 1},
     {"move_granted_after_120_steps", build_move_down, TUPEHIWO_THINGS, 1},
     {"move_refused_after_119_steps", build_move_inside, TUPEHIWO_THINGS, 1},
@@ -372,8 +430,15 @@ const struct bench_case cases[] = {
 };
 
 const unsigned case_count = sizeof cases / sizeof cases[0];
-const struct bench_case *const case_write = &cases[1], *const case_unsound = &cases[10],
-                               *const case_chain = &cases[20];
+
+const struct bench_case *case_named(const char *name)
+{
+    for (unsigned c = 0; c < case_count; c++)
+        if (strcmp(cases[c].name, name) == 0)
+            return &cases[c];
+    fprintf(stderr, "there is no case %s\n", name);
+    exit(1);
+}
 
 void build_item(struct item *item, const struct bench_case *subject, const struct plan *plan,
                 uint64_t seed)

@@ -39,8 +39,8 @@ struct bench_case {
 extern const struct bench_case cases[];
 extern const unsigned case_count;
 
-/* The cases that the growth of the cost is shown with. */
-extern const struct bench_case *const case_write, *const case_unsound, *const case_chain;
+/* The case of that name; where there is none, the program ends. */
+const struct bench_case *case_named(const char *name);
 
 void build_item(struct item *item, const struct bench_case *subject, const struct plan *plan,
                 uint64_t seed);

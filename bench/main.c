@@ -43,18 +43,22 @@ static void line(const char *table, const struct bench_case *subject, struct pla
 
 enum { HALF = TUPEHIWO_THINGS / 2, MOST_ROUNDS = 126 };
 
+/* The cases that the growth of the cost is shown with. */
+#define WRITE "write"
+#define UNSOUND "refusal_with_2_at_the_last_record"
+#define CHAIN "spread_of_a_chain"
+
 /* The core and what the case needs, half of the numbers, and all. */
 static void measure_case(const struct bench_case *subject)
 {
     static const unsigned levels[] = {1, 4, 16};
     const unsigned things[] = {subject->fewest, HALF, TUPEHIWO_THINGS};
+    unsigned rounds = subject == case_named(CHAIN) ? MOST_ROUNDS : 0;
     for (unsigned t = 0; t < 3; t++) {
         if (t > 0 && things[t] <= subject->fewest)
             continue;
-        for (unsigned l = 0; l < 3; l++) {
-            struct plan plan = {things[t], levels[l], subject == case_chain ? MOST_ROUNDS : 0, 0};
-            line("cases", subject, plan);
-        }
+        for (unsigned l = 0; l < 3; l++)
+            line("cases", subject, (struct plan){things[t], levels[l], rounds, 0});
     }
 }
 
@@ -64,16 +68,18 @@ static void measure_growth(void)
     static const unsigned levels[] = {1, 2, 3, 4, 6, 8, 12, 16};
     static const unsigned records[] = {1, 32, 64, 96, 127};
     static const unsigned rounds[] = {0, 1, 2, 4, 8, 16, 32, 64, MOST_ROUNDS};
+    const struct bench_case *write = case_named(WRITE), *unsound = case_named(UNSOUND),
+                            *chain = case_named(CHAIN);
     for (unsigned i = 0; i < sizeof things / sizeof things[0]; i++)
-        line("things", case_write, (struct plan){things[i], 4, 0, 0});
+        line("things", write, (struct plan){things[i], 4, 0, 0});
     for (unsigned i = 0; i < sizeof levels / sizeof levels[0]; i++)
-        line("levels", case_write, (struct plan){FIRST_THINGS, levels[i], 0, 0});
+        line("levels", write, (struct plan){FIRST_THINGS, levels[i], 0, 0});
     for (unsigned i = 0; i < sizeof levels / sizeof levels[0]; i++)
-        line("full", case_write, (struct plan){TUPEHIWO_THINGS, levels[i], 0, 0});
+        line("full", write, (struct plan){TUPEHIWO_THINGS, levels[i], 0, 0});
     for (unsigned i = 0; i < sizeof records / sizeof records[0]; i++)
-        line("unsound", case_unsound, (struct plan){TUPEHIWO_THINGS, 4, 0, records[i]});
+        line("unsound", unsound, (struct plan){TUPEHIWO_THINGS, 4, 0, records[i]});
     for (unsigned i = 0; i < sizeof rounds / sizeof rounds[0]; i++)
-        line("rounds", case_chain, (struct plan){TUPEHIWO_THINGS, 4, rounds[i], 0});
+        line("rounds", chain, (struct plan){TUPEHIWO_THINGS, 4, rounds[i], 0});
 }
 
 static void measure_all(void)

@@ -170,39 +170,44 @@ static int feeds_unmarked(const struct state *s, unsigned n)
     return !empty(common(ends_of(s, n), unmarked));
 }
 
-/* Which of 64 rows hold n. */
-static inline uint64_t column_word(const uint64_t *rows, unsigned n)
+/* Those of a word's numbers that are in use: of few that costs less than of all records. */
+static inline uint64_t used_word(const uint8_t *records, uint64_t word)
 {
-    uint64_t word = 0;
-    for (unsigned p = 0; p < 64; p++)
-        word |= (uint64_t)holds(rows + 2 * p, n) << p;
-    return word;
+    uint64_t found = 0;
+    for (; word != 0; word &= word - 1)
+        found |= records[RECORD * __builtin_ctzll(word) + KIND] != FREE ? word & -word : 0;
+    return found;
 }
 
-/* The set into the rows of a word's numbers, each without its own bit, which is in that half. */
-static inline void join_to_rows(uint64_t *rows, uint64_t word, unsigned half, struct set set)
+/* The feeders among 64 numbers get the set into their rows, each without its own bit. */
+static inline void bridge_half(struct state *s, unsigned first, unsigned object,
+                               struct set set)
 {
     uint64_t halves[2] = {set.low, set.high};
-    for (; word != 0; word &= word - 1) {
-        uint64_t *row = rows + 2 * __builtin_ctzll(word);
-        row[half] |= halves[half] & ~(word & -word);
-        row[!half] |= halves[!half];
+    unsigned half = first / 64;
+    for (unsigned n = 0; n < 64; n++) {
+        uint64_t *flows = row(s, FLOWS, first + n);
+        if (holds(flows, object) && field(s, first + n, KIND) != FREE) {
+            flows[half] |= halves[half] & ~(UINT64_C(1) << n);
+            flows[!half] |= halves[!half];
+        }
     }
 }
 
+/*
+ * The driver gets a flow to the object, so as to be found as the others are. The column is
+ * cleared next, and so is the object's own row, which may have got the set too.
+ */
 static void bridge(struct state *s, unsigned object)
 {
-    uint64_t *low = row(s, FLOWS, 0), *high = row(s, FLOWS, 64);
-    struct set things = ends_of(s, object), in_use, feeders;
-    if (empty(things))
+    struct set ends = ends_of(s, object), things;
+    if (empty(ends))
         return;
-    in_use = used_set(s->bytes);
-    things = common(things, in_use);
-    feeders = (struct set){column_word(low, object), column_word(high, object)};
-    feeders = without(common(feeders, in_use), one(object));
-    feeders = join(feeders, one(field(s, object, DRIVER)));
-    join_to_rows(low, feeders.low, 0, things);
-    join_to_rows(high, feeders.high, 1, things);
+    things.low = used_word(s->bytes, ends.low);
+    things.high = used_word(s->bytes + TUPEHIWO_BYTES / 2, ends.high);
+    add(s, FLOWS, field(s, object, DRIVER), object);
+    bridge_half(s, 0, object, things);
+    bridge_half(s, 64, object, things);
 }
 
 /* Rows of all three kinds lie one after the other: one loop clears the column. */

@@ -332,9 +332,9 @@ static inline uint8_t tupehiwo_move(struct tupehiwo_monitor *m, uint64_t task, u
 
 /*
  * Deletes an empty object from its container, with its flows and accesses. The trail
- * past it stays: each thing that fed the object, and its driver, is recorded as feeding
- * each thing that the object fed, but none as feeding itself. While the object is marked
- * and feeds an unmarked thing it stays (TUPEHIWO_FEEDING): a spread marks that thing too.
+ * past it is kept: each thing that fed the object, and its driver, is recorded as feeding
+ * each thing that the object fed, but none as feeding itself. A marked object is not
+ * deleted while it feeds an unmarked thing (TUPEHIWO_FEEDING), which a spread marks too.
  */
 static inline uint8_t tupehiwo_delete(struct tupehiwo_monitor *m, uint64_t task,
                                       uint64_t driver, uint64_t object, uint64_t container)

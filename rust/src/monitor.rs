@@ -294,10 +294,10 @@ impl Monitor {
 
     /// Deletes an empty object from its container, with its flows and accesses.
     ///
-    /// The trail past it stays: each thing that fed the object, and its driver, is
+    /// The trail past it is kept: each thing that fed the object, and its driver, is
     /// recorded as feeding each thing that the object fed, but none as feeding itself.
-    /// While the object is marked and feeds an unmarked thing it stays (`Feeding`): a
-    /// spread marks that thing too.
+    /// A marked object is not deleted while it feeds an unmarked thing (`Feeding`), which
+    /// a spread marks too.
     ///
     /// ```
     /// use tupehiwo::{Monitor, Order, Verdict};
