@@ -23,10 +23,11 @@ pub struct List {
 }
 
 impl List {
-    /// Begun on memory of any kind, with as many numbers for new things as one of `sizes`.
-    pub fn begin(seed: u64, sizes: &[usize]) -> List {
+    /// Begun under one of such orders, on memory of any kind, with as many numbers for new
+    /// things as one of `sizes`.
+    pub fn begin(seed: u64, orders: fn(&mut Rng) -> Order, sizes: &[usize]) -> List {
         let mut rng = Rng::new(seed);
-        let order = worlds::order(&mut rng);
+        let order = orders(&mut rng);
         let mut pair = Pair::new(format!("list of TUPEHIWO_SEED={seed}"));
         pair.set_tallies(worlds::tallies(&mut rng));
         if rng.once_in(2) {

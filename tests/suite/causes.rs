@@ -23,6 +23,7 @@ const TURNS: u64 = 10;
 fn granted_calls(code: u16) -> usize {
     match code {
         code::MOVE => 250,
+        code::DELETE => 200,
         code::CALL | code::INVOKE | code::FIND => 60,
         code::MARK | code::SPREAD.. => 15,
         _ => 100,
@@ -43,7 +44,8 @@ struct Scene {
 }
 
 impl Scene {
-    /// One that is granted; of a code that names no call, any.
+    /// One that is granted, or a deletion that only its flows refuse; of a code that names no
+    /// call, any.
     fn granted(rng: &mut Rng, code: u16) -> Scene {
         let pool: Vec<Number> = (0..128).collect();
         loop {
@@ -56,7 +58,7 @@ impl Scene {
                 let lengths = Lengths::RIGHT;
                 let mut model = Model::new(state.clone());
                 let verdict = model.perform(lengths, &order, request).verdict;
-                if verdict == 0 || code > code::SPREAD {
+                if [0, 16].contains(&verdict) || code > code::SPREAD {
                     return Scene { state, order, lengths, request, damage: vec![] };
                 }
             }

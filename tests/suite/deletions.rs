@@ -219,10 +219,11 @@ impl Cast {
 /// Which roles are marked.
 type Marking = fn(char) -> bool;
 
-const MARKED: [Marking; 6] = [
+const MARKED: [Marking; 7] = [
     |_| false,
     |role| role == 'd',
     |role| role == 'o',
+    |role| "do".contains(role),
     |role| role != 'd',
     |role| role != 'o',
     |_| true,
@@ -335,21 +336,28 @@ fn all_else_stays() {
     }
 }
 
-/// With a bit in every place of its row and column: none of them is bridged, or keeps a
-/// marked object.
+/// With a bit in every place of its row and column: it is neither feeder nor fed, and keeps
+/// no marked object.
 #[test]
 fn every_free_number() {
     let mut pair = Pair::new("every free number");
-    for free in numbers().skip(1).filter(|n| ![64, 63, 2].contains(n)) {
-        let deletion = Deletion { asker: 0, driver: 2, object: 64, container: 63 };
+    let deletion = Deletion { asker: 0, driver: 2, object: 64, container: 63 };
+    for free in numbers().skip(1).filter(|n| ![2, 63, 64].contains(n)) {
         let mut state = deletion.among_tasks();
         state.put(free, Thing::Free);
-        mark(&mut state, 64);
         for pairs in [&mut state.flows, &mut state.reads, &mut state.writes] {
             pairs.extend(numbers().flat_map(|n| [(free, n), (n, free)]));
         }
         let mut flows = state.flows.clone();
         flows.retain(|&(from, to)| from != 64 && to != 64);
+        let mut marked = state.clone();
+        mark(&mut marked, 64);
+        let left = deletion.left(&marked, flows.clone());
+        deletion.must_leave(&mut pair, marked, &left);
+        // A task that it feeds beside is fed by the driver alone then.
+        let fed = if free == 127 { 126 } else { 127 };
+        state.flows.insert((64, fed));
+        flows.insert((2, fed));
         let left = deletion.left(&state, flows);
         deletion.must_leave(&mut pair, state, &left);
     }
@@ -417,7 +425,7 @@ fn deletions_on_any_memory() {
     let mut rng = Rng::new(seed("deletions_on_any_memory"));
     let mut pair = Pair::new("deletions on any memory");
     let mut times = [0; 9];
-    for (state, deletion) in (0..6000).filter_map(|_| any_deletion(&mut rng)) {
+    for (state, deletion) in (0..8000).filter_map(|_| any_deletion(&mut rng)) {
         let object = deletion.object;
         let is_kept = state.is_marked(object)
             && state.flows.iter().any(|&(from, to)| {
@@ -442,7 +450,7 @@ fn deletions_on_any_memory() {
     let refused = FEEDS.map(|whom| (causes.times(16, whom), whom));
     let granted = DELETED.map(|what| (causes.times(0, what), what));
     println!("{refused:?} {granted:?}");
-    assert!(refused.into_iter().chain(granted).all(|(times, _)| times > 20));
+    assert!(refused.into_iter().chain(granted).all(|(times, _)| times > 10));
 }
 
 // ---------------------------------------------------------- what comes before

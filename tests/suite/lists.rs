@@ -42,7 +42,7 @@ fn one_call(list: &mut List) {
 }
 
 fn one_list(seed: u64) -> Table {
-    let mut list = List::begin(seed, &POOLS);
+    let mut list = List::begin(seed, worlds::order, &POOLS);
     for call in 1..=CALLS_OF_A_LIST {
         one_call(&mut list);
         if call % 100 == 0 {

@@ -9,8 +9,9 @@ use tupehiwo_tests::compare::Pair;
 use tupehiwo_tests::history::Chains;
 use tupehiwo_tests::list::List;
 use tupehiwo_tests::model::{Lengths, Number, Pairs, State};
-use tupehiwo_tests::rng::seed;
-use tupehiwo_tests::{request, texts};
+use tupehiwo_tests::rng::{Rng, seed};
+use tupehiwo_tests::table::Table;
+use tupehiwo_tests::{request, texts, worlds};
 
 const FLAT: Order = Order::new(0, [1]);
 const FEEDING: u8 = 16;
@@ -106,45 +107,52 @@ fn a_marked_file_stays_until_its_reader_is_marked() {
 
 // ------------------------------------------------------- lists with a history
 
-const LISTS: u64 = 250;
-const CALLS_OF_A_LIST: usize = 250;
+const LISTS: u64 = 800;
+const CALLS_OF_A_LIST: usize = 300;
 /// So that not everything is marked, states are made anew now and then.
 const ONE_NEW_STATE_OF: usize = 70;
-/// Tasks do not end: more would leave no numbers for objects.
-const MOST_TASKS: usize = 5;
+/// How many numbers new things get. Tasks do not end: with more of them than these, none
+/// would be left for objects.
+const POOLS: [usize; 3] = [10, 14, 20];
+const MOST_TASKS: usize = 8;
 
-/// Each code as often as it is asked for.
+/// Each code as often as it is asked for: an object is written to and read about once.
 const CODES: [(u16, usize); 14] = [
-    (code::READ, 20),
-    (code::WRITE, 20),
-    (code::EXECUTE, 4),
+    (code::READ, 16),
+    (code::WRITE, 16),
+    (code::EXECUTE, 6),
     (code::CREATE, 16),
-    (code::CREATE_ROOT, 3),
+    (code::CREATE_ROOT, 2),
     (code::MOVE, 2),
     (code::DELETE, 16),
     (code::CALL, 1),
     (code::INVOKE, 1),
-    (code::PASS, 4),
-    (code::POST, 2),
-    (code::FIND, 2),
+    (code::PASS, 8),
+    (code::POST, 1),
+    (code::FIND, 1),
     (code::MARK, 1),
     (code::SPREAD, 3),
 ];
 
+/// One level in half of the lists: whoever reads is fed then.
+fn order(rng: &mut Rng) -> Order {
+    if rng.once_in(2) { FLAT } else { worlds::order(rng) }
+}
+
 /// What must be met in lists, and how often.
 const IN_LISTS: [(&str, u64); 12] = [
-    ("deletion that bridges", 500),
-    ("deletion that bridges from a driver without a flow", 200),
-    ("deletion that bridges bridges", 100),
-    ("deletion refused for what is fed", 100),
-    ("new object of a number used again", 500),
-    ("new task of a number used again", 50),
-    ("mark after a deletion", 200),
-    ("spread that marks something through what has ended", 100),
-    ("spread that leaves something unmarked", 500),
-    ("start in the middle", 50),
-    ("load in the middle", 50),
-    ("refused load in the middle", 50),
+    ("deletion that bridges", 5000),
+    ("deletion that bridges from a driver without a flow", 2000),
+    ("deletion that bridges bridges", 80),
+    ("deletion refused for what is fed", 1500),
+    ("new object of a number used again", 5000),
+    ("new task of a number used again", 1000),
+    ("mark after a deletion", 1000),
+    ("spread that marks something through what has ended", 150),
+    ("spread that leaves something unmarked", 3000),
+    ("start in the middle", 300),
+    ("load in the middle", 400),
+    ("refused load in the middle", 200),
 ];
 
 /// A list, and how often it met what.
@@ -176,9 +184,13 @@ impl Watched {
 
     fn code(&mut self) -> u16 {
         let codes = CODES.iter().flat_map(|&(code, share)| std::iter::repeat_n(code, share));
-        let crowded = self.list.pair.model.state.tasks().count() > MOST_TASKS;
+        let state = &self.list.pair.model.state;
+        let (things, tasks) = (state.used().count(), state.tasks().count());
         match self.list.rng.pick_any(codes).expect("there are codes") {
-            code::EXECUTE if crowded => code::CREATE,
+            _ if things < 6 && self.list.rng.once_in(2) => {
+                self.list.rng.pick(&[code::CREATE_ROOT, code::EXECUTE])
+            }
+            code::EXECUTE if tasks > MOST_TASKS => code::CREATE,
             code => code,
         }
     }
@@ -188,7 +200,7 @@ impl Watched {
             return self.new_state();
         }
         let code = self.code();
-        let request = self.list.author().request_of(code);
+        let request = self.request(code);
         let before = self.list.pair.model.state.clone();
         let bridges = self.has_bridges(request.c);
         let verdict = self.list.perform(Lengths::RIGHT, self.list.order, request);
@@ -207,6 +219,47 @@ impl Watched {
             }
             _ => {}
         }
+    }
+
+    /// An object with its driver and container, which holds none and, if it must, feeds
+    /// something.
+    fn leaf(&mut self, feeding: bool) -> Option<(Number, Number, Number)> {
+        let state = &self.list.pair.model.state;
+        let holds = |n| state.objects().any(|(_, inner)| inner.container == Some(n));
+        let is_leaf = |n| !holds(n) && !(feeding && state.fed_by(n).is_empty());
+        let contained = state.objects().filter_map(|(n, o)| Some((n, o.driver, o.container?)));
+        self.list.rng.pick_any(contained.filter(|&(n, ..)| is_leaf(n)))
+    }
+
+    /// Most reads, writes and deletions are about such an object, and most marks name a task
+    /// that feeds something by a bridge alone.
+    fn request(&mut self, code: u16) -> Request {
+        let directed = !self.list.rng.once_in(5);
+        let request = match code {
+            code::DELETE if directed => {
+                self.about_leaf(code).or_else(|| self.about_leaf(code::READ))
+            }
+            code::READ | code::WRITE if directed => self.about_leaf(code),
+            code::MARK if directed => self.of_bridge(),
+            _ => None,
+        };
+        request.unwrap_or_else(|| self.list.author().request_of(code))
+    }
+
+    fn about_leaf(&mut self, code: u16) -> Option<Request> {
+        let deleting = code == code::DELETE;
+        let (object, driver, container) = self.leaf(deleting)?;
+        let state = &self.list.pair.model.state;
+        let may = |task: &Number| !deleting || state.writes.contains(&(*task, container));
+        let asker = self.list.rng.pick_any(state.tasks().filter(may))?;
+        Some(request(code, &[asker, driver, object, container]))
+    }
+
+    fn of_bridge(&mut self) -> Option<Request> {
+        let (state, history) = (&self.list.pair.model.state, &self.list.history);
+        let bridges = state.flows.iter().filter(|&&(from, to)| history.is_bridge(from, to));
+        let tasks = bridges.map(|&(from, _)| from).filter(|&n| state.task(n).is_ok());
+        self.list.rng.pick_any(tasks).map(|task| request(code::MARK, &[task]))
     }
 
     /// Whether a flow from or to it stands by a bridge alone.
@@ -245,15 +298,18 @@ impl Watched {
 fn trails_through_what_has_ended() {
     let first = seed("trails_through_what_has_ended");
     let mut times = BTreeMap::new();
+    let mut table = Table::default();
     for number in 0..LISTS {
-        let list = List::begin(first.wrapping_add(number), &[6, 8, 10, 14]);
+        let list = List::begin(first.wrapping_add(number), order, &POOLS);
         let mut watched = Watched { list, times };
         for _ in 0..CALLS_OF_A_LIST {
             watched.one_call();
             watched.list.must_keep_the_limits();
         }
         times = watched.times;
+        table.add(&watched.list.pair.table);
     }
+    println!("{} calls in lists that delete\n{table}", table.calls());
     for (what, least) in IN_LISTS {
         let times = times.get(what).copied().unwrap_or(0);
         println!("of the deletions in lists: {times} times a {what}");
