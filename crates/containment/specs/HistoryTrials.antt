@@ -1,10 +1,9 @@
 -- Lives about a deleted file: trials of the history, on the state of model/DeleteTrials in which task 1 fed the file 4 and the file fed task 2.
 -- Assumes nothing.
 use mathlib.Core.Path.{_≡_, refl}
-use mathlib.Core.Bool.{Bool, true, false}
+use mathlib.Core.Bool.{true, false}
 use mathlib.Core.List.{List, [], _∷_}
 use Prim.Native.Nat.{ℕ}
-use lib.ListN.{replicate}
 use Rattle.bits.specs.All.{upTo}
 use Rattle.bits.specs.Bit.{bit, wordOf}
 use Rattle.rows.specs.Rows.{cell, addCell, cutCell, clearRow, clearColumn, clearThing, joinRow, bridged}
