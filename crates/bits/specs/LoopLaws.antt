@@ -1,13 +1,13 @@
--- What a loop keeps, and how many numbers pass.
+-- What a loop keeps, what it sets, and how many numbers pass.
 -- Assumes nothing.
-use mathlib.Core.Path.{_≡_, refl, subst}
+use mathlib.Core.Path.{_≡_, refl, sym, ap, subst, _∙_}
 use mathlib.Core.Logic.{_⊎_, inl, inr, ⊎-elim}
-use mathlib.Core.Bool.{Bool, true, false, true≢false}
+use mathlib.Core.Bool.{Bool, true, false, _||_, true≢false, or-assoc}
 use Prim.Native.Nat.{ℕ, zero, suc, _+_, _≤_, _<_, zero-le}
 use native.Mathlib.Nat.{le-refl, le-suc, le-trans}
 use native.Mathlib.Omega.{arith}
-use Rattle.bits.specs.All.{upTo, allB, _⇒_, one, countB}
-use Rattle.bits.specs.AllLaws.{either}
+use Rattle.bits.specs.All.{upTo, allB, anyB, _⇒_, one, countB}
+use Rattle.bits.specs.AllLaws.{either, or-false}
 
 module _ {A : Type 0} (f : ℕ → A → A) where
   -- what each step keeps the loop keeps
@@ -27,6 +27,22 @@ module _ {A : Type 0} (f : ℕ → A → A) where
       (λ (b : k < n). keep n (upTo f n s) (le-refl (suc n))
       (up-from P Q n (λ i t c. keep i t (le-trans c (le-suc n))) (λ i t c. first i t (le-trans c (le-suc n))) k b here s p))
       (native.Mathlib.Nat.eq-or-lt-of-le (native.Mathlib.Nat.le-of-suc-le-suc l))
+
+  -- steps that set where p i holds, on what the loop keeps, set where some p i does
+  pub up-sets : (I : A → Type 0) (has : A → Bool) (p : ℕ → Bool) (n : ℕ) → ((i : ℕ) (s : A) → I s → I (f i s))
+      → ((i : ℕ) (s : A) → i < n → I s → has (f i s) ≡ (has s || p i)) → (s : A) → I s → has (upTo f n s) ≡ (has s || anyB n p)
+  unfolding upTo anyB
+  up-sets I has p zero k h s q = sym (or-false (has s))
+  up-sets I has p (suc n) k h s q =
+      h n (upTo f n s) (le-refl (suc n)) (up-keeps I n (λ i t l. k i t) s q)
+      ∙ ap (λ (b : Bool). b || p n) (up-sets I has p n k (λ i t l. h i t (le-trans l (le-suc n))) s q)
+      ∙ or-assoc (has s) (anyB n p) (p n)
+
+  -- equal steps make equal loops
+  pub up-ext : (g : ℕ → A → A) (n : ℕ) → ((i : ℕ) (s : A) → i < n → f i s ≡ g i s) → (s : A) → upTo f n s ≡ upTo g n s
+  unfolding upTo
+  up-ext g zero h s = refl
+  up-ext g (suc n) h s = h n (upTo f n s) (le-refl (suc n)) ∙ ap (g n) (up-ext g n (λ i t l. h i t (le-trans l (le-suc n))) s)
 
 -- ---- how many pass
 

@@ -18,7 +18,7 @@ use rows::NUMBERS;
 use rows::ROW_WORDS;
 use sets::Set;
 
-// What x feeds: the things in use, but for x itself, that it has a flow to.
+// What x feeds: the things in use, but for x itself, that it has a flow to. A row without flows needs no look at the records.
 fn fed_by(bytes: &[u8], words: &[u64], x: u16) -> Set
     requires { ⌜ BytesLent (now bytes) × WordsLent (now words) × (x < numbers) ⌝ }
     ensures { λ r. ⌜ r ≡ setOf (fedBy (memory (now (bytes .entry)) (now (words .entry))) x) ⌝ }

@@ -1,21 +1,20 @@
 -- What has to stay over one call other than a start: paths (A), what marks reach (B), and that marks come along paths. Effects that clear nothing only add.
 -- Assumes nothing.
 use mathlib.Core.Path.{_≡_, refl, sym, ap, _∙_}
-use mathlib.Core.Bool.{true, false, not, true≢false, false≢true}
+use mathlib.Core.Bool.{true, false, not, true≢false}
 use mathlib.Core.Logic.{_⊎_, inl, inr}
 use mathlib.Core.List.{List, [], _∷_}
 use Prim.Native.Nat.{ℕ, _<_}
 use native.Mathlib.Omega.{arith}
-use borrow.Author.Tests.{eqb-true, ne-eqb}
-use Rattle.bits.specs.AllLaws.{or-l, not-so}
-use Rattle.rows.specs.RowLaws.{add-kept, bridged-kept}
+use borrow.Author.Tests.{ne-eqb}
+use Rattle.bits.specs.AllLaws.{or-l}
+use Rattle.rows.specs.RowLaws.{add-kept}
 use Rattle.rows.specs.Size.{Size, rowSizeOf, numbersOf}
-use Rattle.levels.specs.declared.Order.{Order}
-use Rattle.records.specs.Records.{field, isObject, soundOf}
-use Rattle.records.specs.RecordLaws.{field-else, free-fields}
+use Rattle.records.specs.Records.{field, isObject}
+use Rattle.records.specs.RecordLaws.{field-else}
 use Rattle.model.specs.State.{MemoryOf, inUse, task, object, marked, hasFlow}
 use Rattle.model.specs.StateLaws.{task-used, object-used, used-below}
-use Rattle.model.specs.Effects.{Effect, flow, flow-if, read-access, write-access, make-task, make-object, move-to, bridge, clear, mark-outside, mark-thing, feeder, fedBy, withWords, effect, effects}
+use Rattle.model.specs.Effects.{Effect, flow, flow-if, read-access, write-access, make-task, make-object, move-to, bridge, clear, mark-outside, mark-thing, withWords, effect, effects}
 use Rattle.model.specs.MarkLaws.{where-words, where-field}
 use Rattle.model.specs.EffectLaws.{Long, effect-long, effects-long, byte-after, marked-after, outside-marked, thing-marked}
 use Rattle.containment.specs.Reach.{Reach, at, Path, Fed, Grows, grows-none, grows-then, reach-grows}
@@ -62,14 +61,9 @@ grows-carries m n E g origin naming =
       naming = naming;
     }
 
--- in sound bytes a free number has no mark
-pub marked-used : {size : Size} (o : Order) (m : MemoryOf size) → soundOf size o (m .bytes) ≡ true → (x : ℕ) → marked m x ≡ true → inUse m x ≡ true
-unfolding marked inUse
-marked-used {size} o m ok x e = ap not (not-so _ (λ z. false≢true (rw (free-fields size o (m .bytes) ok x (eqb-true _ _ z) 5 (omega arith)) at e)))
-
 -- ---- effects that only add
 
--- it clears nothing, and what it makes was free
+-- it neither bridges nor clears, and what it makes was free
 abbrev pub Quiet : {size : Size} → MemoryOf size → Effect → Type 0
 Quiet m (flow x y) = Unit {0}
 Quiet m (flow-if b x y) = Unit {0}
@@ -78,7 +72,7 @@ Quiet m (write-access e x) = Unit {0}
 Quiet {size} m (make-task n l r) = (n < numbersOf size) × (inUse m n ≡ false)
 Quiet {size} m (make-object n l d c b) = (n < numbersOf size) × (inUse m n ≡ false)
 Quiet m (move-to x c) = Unit {0}
-Quiet m (bridge x) = Unit {0}
+Quiet m (bridge x) = ⊥
 Quiet m (clear x) = ⊥
 Quiet m (mark-outside e) = task m e ≡ true
 Quiet m (mark-thing x) = Unit {0}
@@ -109,7 +103,7 @@ module _ {size : Size} (m : MemoryOf size) (long : Long m) where
   apart : (x n : ℕ) → inUse m n ≡ false → inUse m x ≡ true → x ≡ n → ⊥
   apart x n free u d = true≢false (sym u ∙ ap (inUse m) d ∙ free)
 
-  -- an effect that clears nothing only adds
+  -- such an effect only adds
   effect-grows : (e : Effect) → Quiet m e → Grows m (effect e m)
   unfolding effect hasFlow marked
   effect-grows (flow x y) q = words-grow m _ (λ u v h. add-kept (rowSizeOf size) (m .words) x y u v h)
@@ -128,7 +122,7 @@ module _ {size : Size} (m : MemoryOf size) (long : Long m) where
   effect-grows (move-to y c) q =
       bytes-grow m _ refl (λ x f lf u. field-else (m .bytes) y 4 c x f (omega arith) (omega arith) (inr (omega arith)))
       (λ x u h. rw (field-else (m .bytes) y 4 c x 5 (omega arith) (omega arith) (inr (omega arith))) h)
-  effect-grows (bridge x) q = words-grow m _ (λ u v h. bridged-kept (rowSizeOf size) (numbersOf size) (feeder m x) (fedBy m x) (m .words) u v h)
+  effect-grows (bridge x) q = absurd q
   effect-grows (clear x) q = absurd q
   effect-grows (mark-outside e) q =
       bytes-grow m _ (where-words _ _)

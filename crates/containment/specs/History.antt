@@ -1,5 +1,5 @@
 -- The history of a list, for document 02's deletions: lives, which of them were joined, and which of them granted marks have named, since the state of a
--- start. It is told from the calls of the list and from what they leave; it knows nothing of the spread and of the bridging.
+-- start. It is told from the calls of the list and from what they leave; it uses no definition of the spread or of the bridging.
 -- Assumes nothing.
 use mathlib.Core.Path.{_≡_}
 use mathlib.Core.Bool.{Bool, true, false, not, cond, _&&_, _||_}
@@ -45,7 +45,7 @@ isNow ended a = eqb (a .before) (ended (a .number))
 
 -- ---- what joins lives
 
--- every flow between things in use: a flow that stands was recorded in their present lives, since a free number has none (claim FreeBare). Or directly only
+-- every flow between things in use: a flow that stands was recorded in their present lives, since a free number has none (claim FreeBare, for the lists of demand 3). Or directly only
 -- what a call recorded itself, a deletion's bridging left out
 pub data Counting : Type 0 where
   every : Counting

@@ -80,7 +80,7 @@ module _ {size : Size} (o : Order) where
     below : (x : ℕ) → inUse m x ≡ true → x < numbersOf size
     below x = used-below m x (long .bytes-long)
 
-    -- so nothing is marked
+    -- no task is named, so nothing is marked
     pub unmarked : (x : ℕ) → marked m x ≡ false
     unmarked x = not-so _ (λ h. List·Memᴰ·not-nil (i .limits .bounded x (marked-below m x (long .bytes-long) h) .mark-covered h .1))
 

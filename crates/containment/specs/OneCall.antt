@@ -26,6 +26,7 @@ use Rattle.model.specs.Spread.{spread}
 use Rattle.model.specs.Monitor.{fitted, perform}
 use Rattle.model.specs.MarkLaws.{MoreMarks, kept-marked, kept-inUse, kept-object, kept-driver, kept-flow}
 use Rattle.model.specs.SpreadLaws.{spread-more}
+use Rattle.model.specs.SoundLaws.{marked-used}
 use Rattle.model.specs.TableLaws.{Happened, refusals, event-done, fitted-done}
 use Rattle.containment.specs.Lists.{Role, starting, marking, other, role}
 use Rattle.containment.specs.Claims.{Exact}
@@ -34,7 +35,7 @@ use Rattle.containment.specs.CallsKeep.{NoStart}
 use Rattle.containment.specs.SpreadProof.{spread-exact}
 use Rattle.containment.specs.Reach.{Reach, at, along, down, chain-fed, Grows, reach-grows}
 use Rattle.containment.specs.Bypass.{Bypasses, not-gone, past-path, past-fed, delete-bypasses}
-use Rattle.containment.specs.Carries.{Source, Origin, Carries, Nobody, same-origin, grows-carries, marked-used, effects-grow, quiet-carries}
+use Rattle.containment.specs.Carries.{Source, Origin, Carries, Nobody, same-origin, grows-carries, effects-grow, quiet-carries}
 
 -- an object of the driver d
 own-object : {size : Size} (m : MemoryOf size) (d x : ℕ) → objectOf m d x ≡ true → (object m x ≡ true) × (driverOf m x ≡ d)
@@ -218,9 +219,9 @@ unfolding object task isObject isTask
 driver-tasks {size} o m ok y h = eq-eqb _ _ (object-facts size o (m .bytes) ok y (eqb-true _ _ h) .driven)
 
 -- row 16: all that a marked x feeds is marked
-fed-marked : {size : Size} (m : MemoryOf size) → Long m → (x : ℕ) → not (feedsUnmarked m x) ≡ true → marked m x ≡ true → (q : ℕ) → fedBy m x q ≡ true → marked m q ≡ true
+sixteen-marks : {size : Size} (m : MemoryOf size) → Long m → (x : ℕ) → not (feedsUnmarked m x) ≡ true → marked m x ≡ true → (q : ℕ) → fedBy m x q ≡ true → marked m q ≡ true
 unfolding feedsUnmarked fedBy
-fed-marked {size} m long x h k q f = ⊎-elim (λ e. e) (λ e. absurd (true≢false (sym (and-i k (some e)) ∙ not-true _ h))) (either (marked m q))
+sixteen-marks {size} m long x h k q f = ⊎-elim (λ e. e) (λ e. absurd (true≢false (sym (and-i k (some e)) ∙ not-true _ h))) (either (marked m q))
   where
     some : marked m q ≡ false → anyB (numbersOf size) (λ y. fedBy m x y && not (marked m y)) ≡ true
     some e = any-i (numbersOf size) (λ y. fedBy m x y && not (marked m y)) q (used-below m q (long .bytes-long) ((simp and-eq-true-iff at f) .0 .0)) (and-i f (ap not e))
@@ -270,7 +271,7 @@ module _ {size : Size} (o : Order) (m : MemoryOf size) where
       event-carries (delete o m e d x k) Nobody refl
       (λ t l.
       let a = simp and-eq-true-iff at (t .tests .0) in
-      delete-carries m l x (marked m d) e d (a .0 .1) (driver-tasks o m (t .sound-bytes)) (fed-marked m l x (t .tests .1 .1 .1 .1 .1 .1 .0))) h
+      delete-carries m l x (marked m d) e d (a .0 .1) (driver-tasks o m (t .sound-bytes)) (sixteen-marks m l x (t .tests .1 .1 .1 .1 .1 .1 .0))) h
   call-carries (CallTask a b) n h = event-carries (callTask o m a b) Nobody refl (λ t l. quiet-carries m l (callTask o m a b .effects) (tt, (tt, tt)) (λ x u k. (u, k))) h
   call-carries (Invoke a b) n h = event-carries (invoke o m a b) Nobody refl (λ t l. quiet-carries m l (invoke o m a b .effects) (tt, (tt, tt)) (λ x u k. (u, k))) h
   call-carries (Pass z x y) n h = event-carries (pass o m z x y) Nobody refl (λ t l. quiet-carries m l (pass o m z x y .effects) (tt, tt) (λ x u k. (u, k))) h

@@ -1,20 +1,18 @@
 -- Every granted spread marks exactly what chains reach.
 -- Assumes nothing.
 use mathlib.Core.Path.{_≡_, ap, _∙_}
-use mathlib.Core.Bool.{true, not, false≢true}
+use mathlib.Core.Bool.{true}
 use Prim.Native.Nat.{ℕ}
-use native.Mathlib.Omega.{arith}
-use borrow.Author.Tests.{eqb-true}
-use Rattle.bits.specs.AllLaws.{not-so}
 use Rattle.rows.specs.Size.{Size}
 use Rattle.levels.specs.declared.Order.{Order}
 use Rattle.records.specs.Records.{soundOf}
-use Rattle.records.specs.RecordLaws.{long, free-fields}
+use Rattle.records.specs.RecordLaws.{long}
 use Rattle.model.specs.Verdicts.{isDone}
-use Rattle.model.specs.State.{MemoryOf, inUse, marked}
+use Rattle.model.specs.State.{MemoryOf, marked}
 use Rattle.model.specs.Spread.{spread}
 use Rattle.model.specs.TableLaws.{fitted-done}
 use Rattle.model.specs.MarkLaws.{kept-marked, kept-inUse, kept-object, kept-driver, kept-flow}
+use Rattle.model.specs.SoundLaws.{marked-used}
 use Rattle.model.specs.SpreadLaws.{Sized, sized-more, Closed, MarksIn, rest-closed, spread-more, spread-only, spread-rests}
 use Rattle.containment.specs.Chains.{Chain, first, by-flow, by-driver}
 use Rattle.containment.specs.Claims.{Exact, SpreadExact}
@@ -25,8 +23,7 @@ module _ {size : Size} (o : Order) (m : MemoryOf size) (ok : soundOf size o (m .
 
   -- what is marked before is the first of a chain: a free number has no mark
   marked-first : MarksIn (Chain m) m
-  unfolding marked inUse
-  marked-first x l e = first x l (ap not (not-so _ (λ z. false≢true (rw (free-fields size o (m .bytes) ok x (eqb-true _ _ z) 5 (omega arith)) at e)))) e
+  marked-first x l e = first x l (marked-used o m ok x e) e
 
   chains-closed : Closed m (Chain m)
   chains-closed = record { by-flow = by-flow; by-driver = by-driver }

@@ -38,7 +38,7 @@ pub record SameHistory (g h : History) : Type 0 where
   pub same-joined : (a b : Life) → g .joined a b ≡ h .joined a b
   pub same-named : g .named ≡ h .named
 
--- the history that a granted load begins is that of a start and then its calls
+-- the history that a granted load begins is that of a start and then its calls, every flow counted
 abbrev pub LoadHistory : Type 0
 LoadHistory = (size : Size) (o : Order) (m : MemoryOf size) (t : List ℕ) (a : AsCalls o m t)
     → SameHistory (anew (load o m t .memory)) (historyOf every (asks o Start) m (map (asks o) (layoutCalls (a .layout))))

@@ -106,7 +106,7 @@ pub unnamed : (m : Memory) (e : Event) (named : Bool) (d x rest : ℕ) → verdi
 unfolding driven unless
 unnamed m e named d x rest is n = turned-away m e (sym (is ∙ rw n)) (omega arith)
 
--- what a deletion leaves: the flows past the object, then its record and its flows cleared, then a flow to the driver
+-- what a deletion leaves: the flows past the object, then its record, its flows and the accesses to it cleared, then a flow to the driver
 pub deleted : (m : Memory) (e d x : ℕ) (b : Bool) {bs bridged cleared ws : List ℕ} → memory (m .bytes) bridged ≡ effect (bridge x) m → bs ≡ setRecord (m .bytes) x 0 0 0 0 0 0 0
     → cleared ≡ clearThing rowSize numbers tables x bridged → ws ≡ cond b (addCell rowSize cleared e d) cleared
     → memory bs ws ≡ effects (bridge x ∷ clear x ∷ flow-if b e d ∷ []) m

@@ -49,6 +49,7 @@ pub fn move_object(
     record_both(words, judged, e, x, e, d);
 }
 
+// Bridged first, while the object's record and its flows still stand.
 pub fn delete(bytes: &mut [u8], words: &mut [u64], judged: Decision, e: u16, d: u16, x: u16)
     requires { ⌜ BytesLent (now bytes) × WordsLent (now words) × (x < numbers) × (isObject (now bytes) x ≡ true) ⌝ }
     ensures { λ _. ⌜ memory (now (bytes .exit)) (now (words .exit)) ≡ effects (bridge x ∷ clear x ∷ flow-if (judged .second) e d ∷ []) (memory (now (bytes .entry)) (now (words .entry))) ⌝ }

@@ -159,7 +159,7 @@ fn is_empty(bytes: &[u8], x: u16) -> bool
     true
 }
 
-// The two rows below the rule. The records and the flows are gone through only where nothing else refuses.
+// The two rows below the rule. The records and the flows are gone through only where no row above them refuses.
 fn last_rows(bytes: &[u8], words: &[u64], x: u16, verdict: u8) -> u8
     requires { ⌜ BytesLent (now bytes) × WordsLent (now words) × (verdict ≡ granted → x < numbers) ⌝ }
     ensures { λ r. ⌜ r ≡ lastRows (isEmpty (now (bytes .entry)) x) (feedsUnmarked (memory (now (bytes .entry)) (now (words .entry))) x) verdict ⌝ }

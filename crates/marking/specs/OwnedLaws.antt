@@ -18,13 +18,13 @@ use Rattle.rows.specs.RowLaws.{cell-add, length-add}
 use Rattle.levels.specs.declared.Order.{Order}
 use Rattle.records.specs.Records.{driver, isObject, sound}
 use Rattle.records.specs.RecordLaws.{object-facts, in-use}
+use Rattle.sets.specs.declared.Set.{Set}
+use Rattle.sets.specs.Sets.{has, setOf}
+use Rattle.sets.specs.SetLaws.{in-set}
 use Rattle.model.specs.State.{Memory, object, driverOf, marked}
 use Rattle.model.specs.StateLaws.{object-used}
 use Rattle.model.specs.SpreadLaws.{unmarked}
 use Rattle.model.specs.Effects.{objectOf}
-use Rattle.sets.specs.declared.Set.{Set}
-use Rattle.sets.specs.Sets.{has, setOf}
-use Rattle.sets.specs.SetLaws.{in-set}
 use Rattle.marking.specs.Rounds.{Driven, Put, Table, puts, ownRow}
 
 pub sound-driven : (o : Order) (bs : List ℕ) → sound o bs ≡ true → Driven bs

@@ -10,13 +10,13 @@ use Rattle.bits.specs.All.{anyB}
 use Rattle.bits.specs.AllLaws.{either, both-ways, and-i, and-l, and-true, and-false, or-cases, or-l, or-r, any-i, any-at}
 use Rattle.rows.specs.Size.{rowSize, numbers}
 use Rattle.rows.specs.Rows.{cell}
+use Rattle.sets.specs.Sets.{joined}
 use Rattle.model.specs.State.{Memory, inUse, object, driverOf, marked, hasFlow}
 use Rattle.model.specs.Effects.{objectOf}
 use Rattle.model.specs.Spread.{reached, driven, round}
 use Rattle.model.specs.StateLaws.{marked-below, object-used}
 use Rattle.model.specs.MarkLaws.{MoreMarks, kept-inUse, kept-object, kept-driver, kept-flow, kept-marked, where-more, where-length}
 use Rattle.model.specs.SpreadLaws.{Sized, byFlows, more-round, marked-flows, marked-round, unmarked}
-use Rattle.sets.specs.Sets.{joined}
 use Rattle.marking.specs.Rounds.{Table, byFlow, byDriver}
 use Rattle.marking.specs.MarksLaws.{kept-objectOf}
 

@@ -10,12 +10,12 @@ use Rattle.bits.specs.All.{anyB}
 use Rattle.rows.specs.Size.{rowSize, numbers}
 use Rattle.rows.specs.Rows.{cell, addCell}
 use Rattle.records.specs.Records.{driver, isObject}
+use Rattle.sets.specs.declared.Set.{Set}
+use Rattle.sets.specs.Sets.{has, setOf, joined}
 use Rattle.model.specs.State.{Memory, inUse, marked}
 use Rattle.model.specs.Effects.{objectOf}
 use Rattle.model.specs.Spread.{rounds, afterRounds}
-use Rattle.sets.specs.declared.Set.{Set}
 use Rattle.marking.specs.declared.rounds.Spread.{Spread}
-use Rattle.sets.specs.Sets.{has, setOf, joined}
 
 -- a row for each number, and one more for the drivers
 abbrev pub OwnedRows : List ℕ → Type 0

@@ -13,17 +13,17 @@ use Rattle.bits.specs.AllLaws.{either, any-ext, any-i, any-at, all-at, not-so, 
 use Rattle.bits.specs.LoopLaws.{count-le, count-more}
 use Rattle.rows.specs.Size.{rowSize, numbers}
 use Rattle.rows.specs.Rows.{cell}
+use Rattle.sets.specs.declared.Set.{Set}
+use Rattle.sets.specs.Sets.{last, has, setOf, joined}
+use Rattle.sets.specs.SetLaws.{in-set, set-ext}
+use Rattle.sets.specs.WalkLaws.{joined-ext}
 use Rattle.model.specs.State.{Memory, inUse, marked}
 use Rattle.model.specs.StateLaws.{object-used, marked-below}
 use Rattle.model.specs.Effects.{markWhere}
 use Rattle.model.specs.Spread.{reached, driven, round, marksSome, rounds, afterRounds, spread}
 use Rattle.model.specs.MarkLaws.{MoreMarks, more-none, more-then, kept-inUse, kept-marked, where-length}
 use Rattle.model.specs.SpreadLaws.{Sized, Closed, sized-more, byFlows, round-only, more-round, marked-round, unmarked, round-fewer, rest-rounds, after-keeps, spread-only}
-use Rattle.sets.specs.declared.Set.{Set}
 use Rattle.marking.specs.declared.rounds.Spread.{Spread}
-use Rattle.sets.specs.Sets.{last, has, setOf, joined}
-use Rattle.sets.specs.SetLaws.{in-set, set-ext}
-use Rattle.sets.specs.WalkLaws.{joined-ext}
 use Rattle.marking.specs.MarksLaws.{Marks, marks-none, marks-ext, marks-then, marks-where, marks-same, kept-objectOf}
 use Rattle.marking.specs.Rounds.{Table, byFlow, byDriver, roundSet, spreadSets}
 use Rattle.marking.specs.RoundLaws.{Sources, round-is, first-sources, next-sources}

@@ -9,9 +9,9 @@ ghost use Prim.Native.Nat.{ℕ, _+_, _≤_, _<_};
 ghost use Rattle.bits.specs.All.{anyB};
 ghost use Rattle.rows.specs.Size.{numbers};
 ghost use Rattle.records.specs.Records.{BytesLent, field, kind};
+ghost use Rattle.sets.specs.Sets.{Within, has, inWord};
 ghost use Rattle.model.specs.State.{memory, marked, hasFlow};
 ghost use Rattle.model.specs.Effects.{markWhere, objectOf, effect, mark-outside, mark-thing};
-ghost use Rattle.sets.specs.Sets.{Within, has, inWord};
 ghost use Rattle.marking.specs.Plain.{Plain};
 
 // The numbers of a word are marked. A mark that is there stays as it is.

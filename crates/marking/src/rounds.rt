@@ -10,9 +10,9 @@ ghost use Rattle.bits.specs.All.{anyB};
 ghost use Rattle.rows.specs.Size.{rowSize, numbers, WordsLent};
 ghost use Rattle.rows.specs.Rows.{addCell};
 ghost use Rattle.records.specs.Records.{BytesLent, driver, isObject};
+ghost use Rattle.sets.specs.Sets.{last, Within, has, setOf, inWord, TableLent};
 ghost use Rattle.model.specs.State as state;
 ghost use Rattle.model.specs.State.{memory};
-ghost use Rattle.sets.specs.Sets.{last, Within, has, setOf, inWord, TableLent};
 ghost use Rattle.marking.specs.Rounds.{OwnedRows, Driven, Put, ownRow, roundSet, spreadSets};
 
 // The words of the rows of the drivers' objects, one row for each number, and of one more for the drivers themselves.

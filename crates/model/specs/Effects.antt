@@ -23,7 +23,7 @@ pub data Effect : Type 0 where
   make-object : ℕ → ℕ → ℕ → Place → Bool → Effect
   -- the object .., which is in a container and no root, is put into the container ..
   move-to : ℕ → ℕ → Effect
-  -- each thing that fed .., and its driver, is recorded as feeding each thing that it fed (document 02)
+  -- each thing that fed .., and its driver, is recorded as feeding each thing that it fed, none as feeding itself (document 02)
   bridge : ℕ → Effect
   -- the record, and in flows and both kinds of access the row and the column, are cleared
   clear : ℕ → Effect

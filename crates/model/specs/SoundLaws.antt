@@ -2,7 +2,7 @@
 -- Assumes nothing.
 use mathlib.Core.Path.{_≡_, refl, sym, ap, _∙_}
 use mathlib.Core.Logic.{_⊎_, inl, inr, ⊎-elim}
-use mathlib.Core.Bool.{Bool, true, false, _&&_, and-eq-true-iff, true≢false}
+use mathlib.Core.Bool.{Bool, true, false, not, _&&_, and-eq-true-iff, true≢false, false≢true}
 use mathlib.Core.List.{List, [], _∷_}
 use Prim.Native.Nat.{ℕ, _<_}
 use native.Mathlib.Omega.{arith}
@@ -10,18 +10,18 @@ use lib.Dec.{eqb}
 use lib.ListN.{length, length-replicate}
 use borrow.Author.Tests.{eqb-true, eqb-false, eq-eqb, ltb-true, not-true, not-false}
 use Rattle.bits.specs.All.{one}
-use Rattle.bits.specs.AllLaws.{and-i, and-l, any-i, or-cases}
+use Rattle.bits.specs.AllLaws.{and-i, and-l, any-i, or-cases, not-so}
 use Rattle.rows.specs.Size.{Size, numbersOf, lentWords}
 use Rattle.levels.specs.declared.Order.{Order}
 use Rattle.levels.specs.Order.{inOrder, orderPasses}
 use Rattle.levels.specs.OrderLaws.{is-order, both-in}
 use Rattle.records.specs.Records.{kind, isTask, isObject, soundOf, lentBytes}
-use Rattle.records.specs.RecordLaws.{field-else, in-use, long}
+use Rattle.records.specs.RecordLaws.{field-else, free-fields, in-use, long}
 use Rattle.records.specs.KeepLaws.{task-made, PlaceFits, object-made, object-moved, object-cleared, mark-kept, sound-start}
 use Rattle.model.specs.declared.Call.{Call}
 use Rattle.model.specs.declared.Call.the-variants.{Start, Read, Write, Execute, Create, CreateRoot, Move, Delete, CallTask, Invoke, Pass, Post, Find, Mark, Step, Spread}
 use Rattle.model.specs.Verdicts.{isDone}
-use Rattle.model.specs.State.{MemoryOf, lengthsFit, inUse, task, object, driverOf, liesIn}
+use Rattle.model.specs.State.{MemoryOf, lengthsFit, inUse, task, object, driverOf, liesIn, marked}
 use Rattle.model.specs.StateLaws.{object-used}
 use Rattle.model.specs.Inside.{inside}
 use Rattle.model.specs.Effects.{Effect, flow, flow-if, read-access, write-access, make-task, make-object, move-to, bridge, clear, mark-outside, mark-thing, objectOf, markWhere, effect, effects}
@@ -32,6 +32,11 @@ use Rattle.model.specs.MarkLaws.{where-keeps}
 use Rattle.model.specs.SpreadLaws.{after-keeps, spread-more}
 use Rattle.model.specs.TableLaws.{Holds, refusals, event-done, fitted-done, start-done}
 use Rattle.model.specs.EffectLaws.{fit-long, long-fits, effect-long}
+
+-- in sound bytes a free number has no mark
+pub marked-used : {size : Size} (o : Order) (m : MemoryOf size) → soundOf size o (m .bytes) ≡ true → (x : ℕ) → marked m x ≡ true → inUse m x ≡ true
+unfolding marked inUse
+marked-used {size} o m ok x e = ap not (not-so _ (λ z. false≢true (rw (free-fields size o (m .bytes) ok x (eqb-true _ _ z) 5 (omega arith)) at e)))
 
 module _ {size : Size} where
   abbrev pub Sound : Order → MemoryOf size → Type 0

@@ -18,7 +18,7 @@ use Rattle.bits.specs.Bit.{bit, wordOf}
 use Rattle.bits.specs.BitLaws.{bit-and, bit-or, bit-pow, bit-not, bit-zero, bit-word, word-is, word-lt}
 use Rattle.bits.specs.All.{anyB, upTo}
 use Rattle.bits.specs.AllLaws.{either, both-ways, or-l, and-l, and-r, and-i, and-true, or-false, any-i, any-at, up-more}
-use Rattle.bits.specs.LoopLaws.{up-keeps}
+use Rattle.bits.specs.LoopLaws.{up-keeps, up-sets, up-ext}
 use Rattle.bits.specs.WordsLaws.{getD-zeros}
 use Rattle.rows.specs.Size.{Size, small, large, numbersOf}
 use Rattle.rows.specs.Rows.{place, cell, addCell, cutCell, clearRow, clearColumn, clearThing, joinRow, bridged}
@@ -245,25 +245,11 @@ cell-zeros n m x y = ap (λ (w : ℕ). bit w (y % 64)) (getD-zeros m (place n x 
 
 -- ---- loops that set
 
-or-or : (h a b : Bool) → ((h || a) || b) ≡ (h || (a || b))
-or-or true a b = refl
-or-or false a b = refl
-
--- a loop whose step i sets where p i holds, on what the loop keeps, sets where some p i does
-up-sets : {A : Type 0} (f : ℕ → A → A) (I : A → Type 0) (has : A → Bool) (p : ℕ → Bool) (n : ℕ) → ((i : ℕ) (s : A) → I s → I (f i s))
-    → ((i : ℕ) (s : A) → i < n → I s → has (f i s) ≡ (has s || p i)) → (s : A) → I s → has (upTo f n s) ≡ (has s || anyB n p)
-unfolding upTo anyB
-up-sets f I has p zero k h s q = sym (or-false (has s))
-up-sets f I has p (suc n) k h s q =
-    h n (upTo f n s) (le-refl (suc n)) (up-keeps f I n (λ i t l. k i t) s q)
-    ∙ ap (λ (b : Bool). b || p n) (up-sets f I has p n k (λ i t l. h i t (le-trans l (le-suc n))) s q)
-    ∙ or-or (has s) (anyB n p) (p n)
-
-pub length-join : (n x : ℕ) (t : ℕ → Bool) (ws : List ℕ) → length (joinRow n x t ws) ≡ length ws
+length-join : (n x : ℕ) (t : ℕ → Bool) (ws : List ℕ) → length (joinRow n x t ws) ≡ length ws
 unfolding joinRow
 length-join n x t ws = up-length _ n (λ i v. length-set v _ _) ws
 
-pub cell-join : (n x : ℕ) (t : ℕ → Bool) (ws : List ℕ) (x′ y : ℕ) → n * x + n ≤ length ws → y < 64 * n
+cell-join : (n x : ℕ) (t : ℕ → Bool) (ws : List ℕ) (x′ y : ℕ) → n * x + n ≤ length ws → y < 64 * n
     → cell n (joinRow n x t ws) x′ y ≡ (cell n ws x′ y || (eqb x′ x && t y))
 unfolding joinRow cell
 cell-join n x t ws x′ y room h =
@@ -294,28 +280,24 @@ cell-join n x t ws x′ y room h =
         any-i n word (y / 64) (omega arith)
         (and-i (eq-eqb _ _ (ap (λ (v : ℕ). n * v + y / 64) (eqb-true x′ x (and-l (eqb x′ x) (t y) e)))) (ap t (omega arith) ∙ and-r (eqb x′ x) (t y) e))
 
+length-step : (n x : ℕ) (t : ℕ → Bool) (v : List ℕ) (b : Bool) → length (cond b (joinRow n x t v) v) ≡ length v
+length-step n x t v true = length-join n x t v
+length-step n x t v false = refl
+
 pub length-bridged : (n r : ℕ) (from to : ℕ → Bool) (ws : List ℕ) → length (bridged n r from to ws) ≡ length ws
 unfolding bridged
-length-bridged n r from to ws = up-length _ r (λ x v. go x v (from x)) ws
-  where
-    go : (x : ℕ) (v : List ℕ) (b : Bool) → length (cond b (joinRow n x (λ y. to y && not (eqb y x)) v) v) ≡ length v
-    go x v true = length-join n x _ v
-    go x v false = refl
+length-bridged n r from to ws = up-length _ r (λ x v. length-step n x _ v (from x)) ws
 
 -- row x and column y after bridging: what was there, and each column that passes in each row that does
 pub cell-bridged : (n r : ℕ) (from to : ℕ → Bool) (ws : List ℕ) (x y : ℕ) → n * r ≤ length ws → y < 64 * n
     → cell n (bridged n r from to ws) x y ≡ (cell n ws x y || (ltb x r && (from x && (to y && not (eqb y x)))))
 unfolding bridged
 cell-bridged n r from to ws x y room h =
-    up-sets _ (λ v. length v ≡ length ws) (λ v. cell n v x y) row r (λ z v e. keeps z v (from z) ∙ e) (λ z v l e. one z v (from z) l e) ws refl
+    up-sets _ (λ v. length v ≡ length ws) (λ v. cell n v x y) row r (λ z v e. length-step n z _ v (from z) ∙ e) (λ z v l e. one z v (from z) l e) ws refl
     ∙ ap (λ (b : Bool). cell n ws x y || b) (both-ways (anyB r row) (ltb x r && (from x && (to y && not (eqb y x)))) there back)
   where
     row : ℕ → Bool
     row z = from z && (eqb x z && (to y && not (eqb y z)))
-
-    keeps : (z : ℕ) (v : List ℕ) (b : Bool) → length (cond b (joinRow n z (λ y. to y && not (eqb y z)) v) v) ≡ length v
-    keeps z v true = length-join n z _ v
-    keeps z v false = refl
 
     one : (z : ℕ) (v : List ℕ) (b : Bool) → z < r → length v ≡ length ws
         → cell n (cond b (joinRow n z (λ y. to y && not (eqb y z)) v) v) x y ≡ (cell n v x y || (b && (eqb x z && (to y && not (eqb y z)))))
@@ -351,11 +333,6 @@ bridged-later n r from to ws x y l room h =
     ∙ or-false (cell n ws x y)
 
 -- ---- rows joined by equal tests are equal, and no column that passes changes nothing
-
-up-ext : {A : Type 0} (f g : ℕ → A → A) (n : ℕ) → ((i : ℕ) (s : A) → i < n → f i s ≡ g i s) → (s : A) → upTo f n s ≡ upTo g n s
-unfolding upTo
-up-ext f g zero h s = refl
-up-ext f g (suc n) h s = h n (upTo f n s) (le-refl (suc n)) ∙ ap (g n) (up-ext f g n (λ i t l. h i t (le-trans l (le-suc n))) s)
 
 pub join-ext : (n x : ℕ) (s t : ℕ → Bool) (ws : List ℕ) → ((y : ℕ) → y < 64 * n → s y ≡ t y) → joinRow n x s ws ≡ joinRow n x t ws
 unfolding joinRow
@@ -399,11 +376,3 @@ or-kept n ws p k x y h = go (either (ltb p (length ws)))
 pub add-kept : (n : ℕ) (ws : List ℕ) (x y x′ y′ : ℕ) → cell n ws x′ y′ ≡ true → cell n (addCell n ws x y) x′ y′ ≡ true
 unfolding addCell
 add-kept n ws x y x′ y′ h = or-kept n ws (place n x y) (2 ^ (y % 64)) x′ y′ h
-
-pub bridged-kept : (n r : ℕ) (from to : ℕ → Bool) (ws : List ℕ) (x y : ℕ) → cell n ws x y ≡ true → cell n (bridged n r from to ws) x y ≡ true
-unfolding bridged joinRow
-bridged-kept n r from to ws x y h = up-keeps _ (λ v. cell n v x y ≡ true) r (λ z v l e. go z v (from z) e) ws h
-  where
-    go : (z : ℕ) (v : List ℕ) (b : Bool) → cell n v x y ≡ true → cell n (cond b (joinRow n z (λ y. to y && not (eqb y z)) v) v) x y ≡ true
-    go z v true e = up-keeps _ (λ u. cell n u x y ≡ true) n (λ i u l d. or-kept n u (n * z + i) _ x y d) v e
-    go z v false e = e

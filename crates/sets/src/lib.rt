@@ -104,7 +104,7 @@ fn join_word(words: &[u64], word: u64, first: u8, onto: Set) -> Set
     ensures { λ r. ⌜ (r ≡ setOf (λ x. has onto x || joined rowSize (now (words .entry)) (inWord word first) x)) × Within (inWord word first) ⌝ }
 {
     let mut low = onto.low;
-    // The high word is kept as its complement: a compiler puts two words joined alike into one vector register, and each round of a long chain waits longer for that.
+    // The high word is kept as its complement: a compiler puts two words joined alike into one vector register, and each round of a spread along a long chain waits longer for that.
     let mut missed = !onto.high;
     let mut rest = word;
     while rest != 0 {

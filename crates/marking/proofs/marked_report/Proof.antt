@@ -3,10 +3,10 @@ use Prim.Native.Nat.{_+_}
 use native.Mathlib.Omega.{arith}
 use lib.Count.{ones-le}
 use borrow.Author.Needs.{needs}
-use Rattle.model.specs.State.{memory, marked}
-use Rattle.model.specs.Monitor.{markedWords, onesIn}
 use Rattle.sets.specs.Sets.{words}
 use Rattle.sets.specs.SetLaws.{set-words}
+use Rattle.model.specs.State.{memory, marked}
+use Rattle.model.specs.Monitor.{markedWords, onesIn}
 use Rattle.marking.proofs.marked_report.Statement.{statement}
 use Rattle.marking.proofs.marked_report.Tie as tie
 

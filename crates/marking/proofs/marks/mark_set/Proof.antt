@@ -1,9 +1,9 @@
 use mathlib.Core.Path.{ap, _∙_}
 use borrow.Author.Needs.{needs}
-use Rattle.model.specs.Effects.{markWhere}
 use Rattle.sets.specs.Sets.{inWord}
-use Rattle.marking.specs.MarksLaws.{where-then}
 use Rattle.sets.specs.SetLaws.{fits, has-words}
+use Rattle.model.specs.Effects.{markWhere}
+use Rattle.marking.specs.MarksLaws.{where-then}
 use Rattle.marking.proofs.marks.mark_set.Statement.{statement}
 use Rattle.marking.proofs.marks.mark_set.Tie as tie
 

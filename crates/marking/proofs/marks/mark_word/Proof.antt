@@ -8,11 +8,11 @@ use native.Mathlib.Omega.{arith}
 use lib.Dec.{eqb}
 use borrow.Author.Needs.{needs}
 use Rattle.records.specs.Records.{BytesLent}
-use Rattle.model.specs.State.{memory}
 use Rattle.sets.specs.Sets.{inWord}
-use Rattle.marking.specs.MarksLaws.{Marks, Left, left-all, left-less, left-none, marks-store, marks-there}
 use Rattle.sets.specs.SetLaws.{word-within}
 use Rattle.sets.specs.WalkLaws.{in-none, in-next, rest-less}
+use Rattle.model.specs.State.{memory}
+use Rattle.marking.specs.MarksLaws.{Marks, Left, left-all, left-less, left-none, marks-store, marks-there}
 use Rattle.marking.proofs.marks.mark_word.Statement.{statement}
 use Rattle.marking.proofs.marks.mark_word.Tie as tie
 

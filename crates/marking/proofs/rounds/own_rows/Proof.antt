@@ -5,8 +5,8 @@ use Rattle.bits.specs.All.{anyB}
 use Rattle.rows.specs.Size.{rowSize, numbers}
 use Rattle.rows.specs.Rows.{cell}
 use Rattle.sets.specs.Sets.{inWord}
-use Rattle.marking.specs.Rounds.{puts}
 use Rattle.sets.specs.SetLaws.{fits, some-words}
+use Rattle.marking.specs.Rounds.{puts}
 use Rattle.marking.proofs.rounds.own_rows.Statement.{statement}
 use Rattle.marking.proofs.rounds.own_rows.Tie as tie
 

@@ -10,9 +10,9 @@ use borrow.Author.Tests.{not-true, not-false}
 use Rattle.bits.specs.All.{anyB}
 use Rattle.rows.specs.Size.{rowSize, numbers}
 use Rattle.rows.specs.RowLaws.{cell-zeros}
+use Rattle.sets.specs.Sets.{last, has, setOf}
 use Rattle.model.specs.State.{memory, inUse, marked}
 use Rattle.model.specs.SpreadLaws.{unmarked}
-use Rattle.sets.specs.Sets.{last, has, setOf}
 use Rattle.marking.specs.Rounds.{Table}
 use Rattle.marking.specs.OwnedLaws.{owned-table}
 use Rattle.marking.specs.SpreadingLaws.{Spreading, unmarked-set, spreading-first, spreading-below, spreading-next, spreading-end, sets-none}
