@@ -1,1 +1,1 @@
-/^static void bridge(struct state \*s, unsigned object)$/,/^}/s/^        flows\[\([01]\)\] |= things.words\[[01]\];$/&\n        row(s, READS, p)[\1] |= things.words[\1];/
+/^static void bridge(struct state \*s, unsigned object)$/,/^}/s/^        flows\[\([01]\)\] |= .*$/&\n        row(s, READS, p)[\1] |= things.words[\1];/

@@ -1,1 +1,1 @@
-/^static void bridge(struct state \*s, unsigned object)$/,/^}/s/(p != driver && !has(s, FLOWS, p, object))/p != driver/
+/^static void bridge(struct state \*s, unsigned object)$/,/^}/s/(p != driver && !holds(flows, object))/p != driver/

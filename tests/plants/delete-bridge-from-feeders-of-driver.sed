@@ -1,1 +1,1 @@
-/^static void bridge(struct state \*s, unsigned object)$/,/^}/s/!has(s, FLOWS, p, object))/!has(s, FLOWS, p, object) \&\& !has(s, FLOWS, p, driver))/
+/^static void bridge(struct state \*s, unsigned object)$/,/^}/s/!holds(flows, object))/!holds(flows, object) \&\& !holds(flows, driver))/

@@ -1,1 +1,1 @@
-/^static void bridge(struct state \*s, unsigned object)$/,/^}/s/!has(s, FLOWS, p, object))/!has(s, FLOWS, p, object) \&\& !has(s, WRITES, p, object))/
+/^static void bridge(struct state \*s, unsigned object)$/,/^}/s/!holds(flows, object))/!holds(flows, object) \&\& !has(s, WRITES, p, object))/

@@ -1,1 +1,1 @@
-/^static void bridge(struct state \*s, unsigned object)$/,/^}/s/if (!itself)/if (0)/
+/^static void bridge(struct state \*s, unsigned object)$/,/^}/s/ & ~(p < 64 ? [^)]*);/;/

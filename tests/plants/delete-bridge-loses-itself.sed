@@ -1,1 +1,1 @@
-/^static void bridge(struct state \*s, unsigned object)$/,/^}/s/if (!itself)/if (1)/
+/^static void bridge(struct state \*s, unsigned object)$/,/^}/s/^        flows\[1\] |= .*$/&\n        flows[p \/ 64] \&= ~itself;/

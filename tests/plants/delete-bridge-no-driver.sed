@@ -1,1 +1,1 @@
-/^static void bridge(struct state \*s, unsigned object)$/,/^}/s/(p != driver && !has(s, FLOWS, p, object))/!has(s, FLOWS, p, object)/
+/^static void bridge(struct state \*s, unsigned object)$/,/^}/s/(p != driver && !holds(flows, object))/!holds(flows, object)/

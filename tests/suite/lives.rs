@@ -111,13 +111,13 @@ const LISTS: u64 = 800;
 const CALLS_OF_A_LIST: usize = 300;
 /// So that not everything is marked, states are made anew now and then.
 const ONE_NEW_STATE_OF: usize = 70;
-/// How many numbers new things get. Tasks do not end: with more of them than these, none
-/// would be left for objects.
+/// How many numbers new things get.
 const POOLS: [usize; 3] = [10, 14, 20];
+/// Tasks do not end: more of them would leave too few numbers for objects.
 const MOST_TASKS: usize = 8;
 
 /// Each code as often as it is asked for: an object is written to and read about once.
-const CODES: [(u16, usize); 14] = [
+const CODES: [(u16, usize); 15] = [
     (code::READ, 16),
     (code::WRITE, 16),
     (code::EXECUTE, 6),
@@ -131,6 +131,7 @@ const CODES: [(u16, usize); 14] = [
     (code::POST, 1),
     (code::FIND, 1),
     (code::MARK, 1),
+    (code::STEP, 1),
     (code::SPREAD, 3),
 ];
 
@@ -141,9 +142,9 @@ fn order(rng: &mut Rng) -> Order {
 
 /// What must be met in lists, and how often.
 const IN_LISTS: [(&str, u64); 12] = [
-    ("deletion that bridges", 5000),
+    ("deletion that bridges", 4000),
     ("deletion that bridges from a driver without a flow", 2000),
-    ("deletion that bridges bridges", 80),
+    ("deletion that bridges bridges", 50),
     ("deletion refused for what is fed", 1500),
     ("new object of a number used again", 5000),
     ("new task of a number used again", 1000),
@@ -199,12 +200,11 @@ impl Watched {
         if self.list.rng.once_in(ONE_NEW_STATE_OF) {
             return self.new_state();
         }
-        let code = self.code();
-        let request = self.request(code);
+        let request = self.request();
         let before = self.list.pair.model.state.clone();
         let bridges = self.has_bridges(request.c);
         let verdict = self.list.perform(Lengths::RIGHT, self.list.order, request);
-        match code {
+        match request.code {
             code::DELETE if verdict == 0 => self.count_deletion(&before, request, bridges),
             code::DELETE => self.count("deletion refused for what is fed", verdict == FEEDING),
             code::SPREAD => self.count_spread(&before),
@@ -213,7 +213,7 @@ impl Watched {
             }
             code::EXECUTE | code::CREATE | code::CREATE_ROOT if verdict == 0 => {
                 let again = self.list.history.is_used_again(request.c);
-                let task = code == code::EXECUTE;
+                let task = request.code == code::EXECUTE;
                 self.count("new task of a number used again", task && again);
                 self.count("new object of a number used again", !task && again);
             }
@@ -226,15 +226,15 @@ impl Watched {
     fn leaf(&mut self, feeding: bool) -> Option<(Number, Number, Number)> {
         let state = &self.list.pair.model.state;
         let holds = |n| state.objects().any(|(_, inner)| inner.container == Some(n));
-        let is_leaf = |n| !holds(n) && !(feeding && state.fed_by(n).is_empty());
+        let is_leaf = |n| !holds(n) && (!feeding || !state.fed_by(n).is_empty());
         let contained = state.objects().filter_map(|(n, o)| Some((n, o.driver, o.container?)));
         self.list.rng.pick_any(contained.filter(|&(n, ..)| is_leaf(n)))
     }
 
     /// Most reads, writes and deletions are about such an object, and most marks name a task
     /// that feeds something by a bridge alone.
-    fn request(&mut self, code: u16) -> Request {
-        let directed = !self.list.rng.once_in(5);
+    fn request(&mut self) -> Request {
+        let (code, directed) = (self.code(), !self.list.rng.once_in(5));
         let request = match code {
             code::DELETE if directed => {
                 self.about_leaf(code).or_else(|| self.about_leaf(code::READ))

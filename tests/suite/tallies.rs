@@ -124,11 +124,38 @@ impl Cast {
         ]
     }
 
-    /// States, and calls that are refused there with 5 to 8, 10 or 11, if the asker is not
-    /// the core: for each such verdict a call of each code that can have it.
+    /// States, and calls that are refused there with 5 to 8: for each such verdict a call of
+    /// each code that can have it.
     fn refused(&self) -> Vec<(State, u8, Vec<Request>)> {
-        let &Cast { asker, driver, other, object, from, to, .. } = self;
-        let [read, write, execute, create, root, moving, delete, call, invoke, pass, post, find] =
+        let &Cast { asker, other, object, from, to, .. } = self;
+        let [read, write, execute, create, root, moving, delete, _, _, pass, post, find] =
+            self.asked();
+        let state = self.state();
+        let mut nothing_held = self.state();
+        for pairs in [&mut nothing_held.flows, &mut nothing_held.reads, &mut nothing_held.writes] {
+            pairs.clear();
+        }
+        let new = |call| with(call, 2, object);
+        let through = |call| with(call, 1, other);
+        let places = vec![
+            with(moving, 4, from),
+            with(delete, 3, to),
+            with(pass, 2, object),
+            with(post, 2, asker),
+            with(find, 2, asker),
+        ];
+        vec![
+            (state.clone(), TAKEN, [execute, create, root].map(new).into()),
+            (state.clone(), DRIVER, [read, write, moving, delete].map(through).into()),
+            (state, PLACE, places),
+            (nothing_held, HELD, vec![create, moving, delete, pass, post, find]),
+        ]
+    }
+
+    /// The same of the level tests, if the asker is not the core: 10 and 11.
+    fn too_low(&self) -> [(State, u8, Vec<Request>); 5] {
+        let &Cast { asker, driver, other, object, from, .. } = self;
+        let [read, write, execute, create, root, moving, delete, call, invoke, pass, post, _] =
             self.asked();
         let task =
             |level, read_level| Thing::Task(Task { level, read_level, mark: Mark::Unmarked });
@@ -137,33 +164,12 @@ impl Cast {
             things.iter().for_each(|&(n, thing)| state.put(n, thing));
             state
         };
-        let state = self.state();
-        let mut nothing_held = self.state();
-        for pairs in [&mut nothing_held.flows, &mut nothing_held.reads, &mut nothing_held.writes] {
-            pairs.clear();
-        }
         let low_driver = changed(&[(driver, task(0, 0))]);
         let low_asker = changed(&[(asker, task(1, 1))]);
         let low = self.driven(0, Some(from));
         let low_object = changed(&[(object, low)]);
         let low_reads = changed(&[(object, low), (asker, task(TOP, 0)), (other, task(TOP, 0))]);
-        let new = |call| with(call, 2, object);
-        let through = |call| with(call, 1, other);
-        vec![
-            (state.clone(), TAKEN, [execute, create, root].map(new).into()),
-            (state.clone(), DRIVER, [read, write, moving, delete].map(through).into()),
-            (
-                state,
-                PLACE,
-                vec![
-                    with(moving, 4, from),
-                    with(delete, 3, to),
-                    with(pass, 2, object),
-                    with(post, 2, asker),
-                    with(find, 2, asker),
-                ],
-            ),
-            (nothing_held, HELD, vec![create, moving, delete, pass, post, find]),
+        [
             (low_driver.clone(), PATH, vec![read, with(call, 1, driver)]),
             (low_driver, RULE, vec![write, create, root, moving, delete]),
             (low_asker, RULE, vec![write, create, root, moving, delete, invoke]),
@@ -313,7 +319,8 @@ fn every_refusal_counts_on_the_task_that_asks() {
     let mut ledger = Ledger::new("every_refusal_counts_on_the_task_that_asks");
     for asker in numbers().skip(1) {
         let cast = Cast::of(asker);
-        for (state, verdict, calls) in cast.refused().into_iter().chain(cast.kept()) {
+        let refused = cast.refused().into_iter().chain(cast.too_low()).chain(cast.kept());
+        for (state, verdict, calls) in refused {
             for call in calls {
                 ledger.must_raise(asker, verdict, &state, call);
             }
