@@ -70,8 +70,8 @@ enum {
 /* --------------------------------------------------------------- verdicts */
 
 /*
- * What a call answers. The lowest refusal that applies is given, so feeding after
- * filled, but form and deep come right after order.
+ * What a call answers. The lowest refusal that applies is given, save that form and
+ * deep come right after order.
  */
 enum {
     TUPEHIWO_GRANTED = 0, /* done */
@@ -334,7 +334,8 @@ static inline uint8_t tupehiwo_move(struct tupehiwo_monitor *m, uint64_t task, u
  * Deletes an empty object from its container, with its flows and accesses. The trail
  * past it is kept: each thing that fed the object, and its driver, is recorded as feeding
  * each thing that the object fed, but none as feeding itself. A marked object is not
- * deleted while it feeds an unmarked thing (TUPEHIWO_FEEDING), which a spread marks too.
+ * deleted while it feeds an unmarked thing (TUPEHIWO_FEEDING); a spread marks that thing,
+ * and then the object may go.
  */
 static inline uint8_t tupehiwo_delete(struct tupehiwo_monitor *m, uint64_t task,
                                       uint64_t driver, uint64_t object, uint64_t container)

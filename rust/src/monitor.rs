@@ -296,8 +296,8 @@ impl Monitor {
     ///
     /// The trail past it is kept: each thing that fed the object, and its driver, is
     /// recorded as feeding each thing that the object fed, but none as feeding itself.
-    /// A marked object is not deleted while it feeds an unmarked thing (`Feeding`), which
-    /// a spread marks too.
+    /// A marked object is not deleted while it feeds an unmarked thing (`Feeding`); a spread
+    /// marks that thing, and then the object may go.
     ///
     /// ```
     /// use tupehiwo::{Monitor, Order, Verdict};

@@ -11,6 +11,9 @@ use tupehiwo::ffi::{Order, Tally};
 /// The paper's order Q: a diamond with 0 lowest and 3 the top.
 pub const Q: Order = Order::new(3, [15, 10, 12, 8]);
 
+/// One level.
+pub const FLAT: Order = Order::new(0, [1]);
+
 /// Fails, and leaves what is sound under Q sound.
 pub const FAILING: Order = Order { count: 17, ..Q };
 
@@ -38,6 +41,11 @@ pub fn order(rng: &mut Rng) -> Order {
         }
     }
     Order { rows, count: count as u16, top: top as u16 }
+}
+
+/// Every number of a thing.
+pub fn numbers() -> Range<Number> {
+    0..THINGS as Number
 }
 
 /// Numbers rising, falling and mixed.
@@ -183,7 +191,7 @@ pub fn random_task(rng: &mut Rng, count: u16) -> Task {
 /// Flows and accesses, mostly few: half of them join things in use, the rest any
 /// numbers, free ones too.
 fn scatter_words(rng: &mut Rng, state: &mut State) {
-    let all: Vec<Number> = (0..THINGS as Number).collect();
+    let all: Vec<Number> = numbers().collect();
     let tasks: Vec<Number> = state.tasks().collect();
     let objects: Vec<Number> = state.objects().map(|(n, _)| n).collect();
     let used: Vec<Number> = state.used().map(|(n, _)| n).collect();

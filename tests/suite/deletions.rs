@@ -1,7 +1,6 @@
 //! Deletions: the flows past an object that goes, and whom a marked one is kept for.
 
 use std::collections::BTreeMap;
-use std::ops::Range;
 
 use tupehiwo::ffi::{Order, Request, code};
 use tupehiwo_tests::causes::{DELETED, FEEDS};
@@ -9,14 +8,9 @@ use tupehiwo_tests::compare::Pair;
 use tupehiwo_tests::model::{Mark, Number, Object, Pairs, State, THINGS, Task, Thing};
 use tupehiwo_tests::request;
 use tupehiwo_tests::rng::{Rng, seed};
-use tupehiwo_tests::worlds::{self, FAILING, Q, SHORT};
+use tupehiwo_tests::worlds::{self, FAILING, FLAT, Q, SHORT, numbers};
 
-const FLAT: Order = Order::new(0, [1]);
 const FEEDING: u8 = 16;
-
-fn numbers() -> Range<Number> {
-    0..THINGS as Number
-}
 
 fn task(level: u16) -> Thing {
     Thing::Task(Task { level, read_level: 0, mark: Mark::Unmarked })
@@ -95,8 +89,13 @@ impl Deletion {
     /// Granted, and it leaves this.
     #[track_caller]
     fn must_leave(&self, pair: &mut Pair, before: State, after: &State) {
+        self.must_leave_under(FLAT, pair, before, after);
+    }
+
+    #[track_caller]
+    fn must_leave_under(&self, order: Order, pair: &mut Pair, before: State, after: &State) {
         pair.set_state(before);
-        assert_eq!(pair.perform(FLAT, self.request()).verdict, 0, "{self:?}");
+        assert_eq!(pair.perform(order, self.request()).verdict, 0, "{self:?}");
         assert!(pair.model.state == *after, "{self:?} leaves {:?}", pair.model.state.flows);
     }
 
@@ -300,7 +299,7 @@ fn every_feeder_and_every_fed() {
 fn so_many_feeders_and_so_many_fed() {
     let mut pair = Pair::new("so many");
     let counts = [0, 1, 10, 63, 64, 126, 127];
-    for (row, object) in worlds::in_three_orders(0..128).into_iter().zip([64, 127, 1]) {
+    for (row, object) in worlds::in_three_orders(numbers()).into_iter().zip([64, 127, 1]) {
         let others: Vec<Number> = row.into_iter().filter(|&n| n != object).collect();
         let [asker, driver, container] = [0, 125, 63];
         let deletion = Deletion { asker, driver, object, container };
@@ -336,8 +335,8 @@ fn all_else_stays() {
     }
 }
 
-/// With a bit in every place of its row and column: it is neither feeder nor fed, and keeps
-/// no marked object.
+/// With a bit in every place of its row and column, or in all but two: it is neither feeder
+/// nor fed, and keeps no marked object.
 #[test]
 fn every_free_number() {
     let mut pair = Pair::new("every free number");
@@ -354,9 +353,14 @@ fn every_free_number() {
         mark(&mut marked, 64);
         let left = deletion.left(&marked, flows.clone());
         deletion.must_leave(&mut pair, marked, &left);
-        // A task that it feeds beside is fed by the driver alone then.
+        // A task that it feeds beside is fed by the driver alone then, and the driver feeds
+        // nothing else; so these two must not stand before.
         let fed = if free == 127 { 126 } else { 127 };
         state.flows.insert((64, fed));
+        for flow in [(free, fed), (2, free)] {
+            state.flows.remove(&flow);
+            flows.remove(&flow);
+        }
         flows.insert((2, fed));
         let left = deletion.left(&state, flows);
         deletion.must_leave(&mut pair, state, &left);
@@ -536,7 +540,26 @@ fn rows_above_and_what_is_fed() {
     assert_eq!(pair.perform_with(SHORT, Q, request(code::DELETE, &ASKED)).verdict, 2);
 }
 
-/// Other numbers in the call's places, and the verdict, whether feeding or not.
+/// From a task of each level, and from the driver, to a task of each level: higher, lower and
+/// unrelated ones.
+#[test]
+fn levels_play_no_part() {
+    let [asker, driver, object, container] = ASKED;
+    let deletion = Deletion { asker, driver, object, container };
+    let mut state = feeding(false);
+    let (feeders, fed) = ([50, 51, 52, 53], [60, 61, 62, 63]);
+    for (level, (p, q)) in (0..Q.count).zip(feeders.into_iter().zip(fed)) {
+        state.put(p, task(level));
+        state.put(q, task(level));
+        state.flows.extend([(p, object), (object, q)]);
+    }
+    let feeders = feeders.into_iter().chain([driver]);
+    let all = feeders.flat_map(|p| fed.into_iter().chain([FED]).map(move |q| (p, q)));
+    let left = deletion.left(&state, all.collect());
+    deletion.must_leave_under(Q, &mut Pair::new("levels"), state, &left);
+}
+
+/// Other numbers in the call's places, and the verdict, whether the object is marked or not.
 #[test]
 fn numbers_drivers_and_places() {
     let kinds = [CONTAINER, CONTAINER, TASK, TASK];

@@ -11,9 +11,9 @@ use tupehiwo_tests::list::List;
 use tupehiwo_tests::model::{Lengths, Number, Pairs, State};
 use tupehiwo_tests::rng::{Rng, seed};
 use tupehiwo_tests::table::Table;
-use tupehiwo_tests::{request, texts, worlds};
+use tupehiwo_tests::worlds::{self, FLAT, numbers};
+use tupehiwo_tests::{request, texts};
 
-const FLAT: Order = Order::new(0, [1]);
 const FEEDING: u8 = 16;
 
 // -------------------------------------------------------------- small stories
@@ -47,7 +47,7 @@ impl Trial {
         assert_eq!((answer.verdict, answer.rounds), (0, rounds));
         let is_marked = |&n: &Number| self.0.byte(8 * usize::from(n) + 5) != 0;
         let expected: Vec<Number> = marked.into_iter().collect();
-        assert_eq!((0..128).filter(is_marked).collect::<Vec<_>>(), expected);
+        assert_eq!(numbers().filter(is_marked).collect::<Vec<_>>(), expected);
     }
 }
 

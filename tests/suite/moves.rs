@@ -7,9 +7,8 @@ use tupehiwo_tests::compare::Pair;
 use tupehiwo_tests::model::{Mark, Number, Object, State, THINGS, Task, Thing};
 use tupehiwo_tests::request;
 use tupehiwo_tests::rng::{Rng, seed};
-use tupehiwo_tests::worlds::{self, FAILING, Q, SHORT};
+use tupehiwo_tests::worlds::{self, FAILING, FLAT, Q, SHORT};
 
-const FLAT: Order = Order::new(0, [1]);
 const PLACE: u8 = 7;
 
 /// Objects of one level that every task may write: only their places matter.

@@ -5,14 +5,9 @@ use tupehiwo::ffi::{Order, code};
 use tupehiwo_tests::compare::Pair;
 use tupehiwo_tests::model::{Mark, Number, Object, RECORD, State, THINGS, Task, Thing};
 use tupehiwo_tests::request;
-use tupehiwo_tests::worlds;
+use tupehiwo_tests::worlds::{self, FLAT, numbers};
 
-const FLAT: Order = Order::new(0, [1]);
 const MARKS: usize = 5;
-
-fn numbers() -> std::ops::Range<Number> {
-    0..THINGS as Number
-}
 
 fn task(mark: Mark) -> Thing {
     Thing::Task(Task { level: 0, read_level: 0, mark })

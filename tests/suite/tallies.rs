@@ -13,7 +13,7 @@ use tupehiwo_tests::model::{
 use tupehiwo_tests::request;
 use tupehiwo_tests::rng::{Rng, seed};
 use tupehiwo_tests::texts::nested;
-use tupehiwo_tests::worlds::{self, FAILING, Q, SHORT};
+use tupehiwo_tests::worlds::{self, FAILING, Q, SHORT, numbers};
 
 const GRANTED: u8 = 0;
 const SLIPPED: u8 = 1;
@@ -32,10 +32,6 @@ const STILL: u8 = 13;
 const FEEDING: u8 = 16;
 
 const TOP: u16 = Q.top;
-
-fn numbers() -> Range<Number> {
-    0..THINGS as Number
-}
 
 // -------------------------------------------------------------------- a call
 

@@ -5,15 +5,16 @@ use mathlib.Core.Bool.{true, false, not, _&&_, _||_, and-eq-true-iff, true≢fal
 use mathlib.Core.Logic.{_⊎_, inl, inr, ⊎-elim}
 use Prim.Native.Nat.{ℕ, _<_}
 use lib.Dec.{eqb}
-use borrow.Author.Tests.{eqb-true, eqb-false, eq-eqb, ne-eqb, not-true}
-use Rattle.bits.specs.AllLaws.{or-cases, or-l, or-r, and-i}
+use borrow.Author.Tests.{eqb-false, eq-eqb, ne-eqb, not-true}
+use Rattle.bits.specs.AllLaws.{or-l, or-r, and-i}
 use Rattle.rows.specs.Size.{Size, numbersOf}
 use Rattle.model.specs.State.{MemoryOf, inUse, task, object, driverOf, marked, hasFlow}
-use Rattle.model.specs.StateLaws.{object-used, object-task, used-below}
-use Rattle.model.specs.Effects.{bridge, clear, objectOf, feeder, fedBy, effect}
+use Rattle.model.specs.StateLaws.{object-used, object-task, used-apart, used-below}
+use Rattle.model.specs.Effects.{bridge, clear, feeder, fedBy, effect}
 use Rattle.model.specs.EffectLaws.{Long, effect-long, flow-after, inUse-after, object-after, driver-after, marked-after}
-use Rattle.containment.specs.Changes.{is-number}
-use Rattle.containment.specs.Reach.{Reach, at, along, down, Path, Fed, reach-used, reach-below}
+use Rattle.containment.specs.Tables.{flows, has-bridged}
+use Rattle.containment.specs.Changes.{equal-or-not}
+use Rattle.containment.specs.Reach.{Feeds, feeds-by, feeds-so, Reach, at, along, down, Path, Fed, reach-step, reach-used, reach-below}
 
 -- n is m without x, and what fed x, or drove it, feeds what it fed
 pub record Bypasses {size : Size} (m n : MemoryOf size) (x : ℕ) : Type 0 where
@@ -30,16 +31,12 @@ pub record Bypasses {size : Size} (m n : MemoryOf size) (x : ℕ) : Type 0 where
 module _ {size : Size} (m n : MemoryOf size) (x : ℕ) (b : Bypasses m n x) where
   -- what is in use afterwards is not x
   pub not-gone : (y : ℕ) → inUse n y ≡ true → y ≡ x → ⊥
-  not-gone y u e = true≢false (sym u ∙ ap (inUse n) e ∙ b .gone)
+  not-gone y u e = used-apart n y x u (b .gone) e
 
   -- a step to x comes from a feeder
-  by-flow : (p : ℕ) → inUse m p ≡ true → (p ≡ x → ⊥) → hasFlow m p x ≡ true → feeder m x p ≡ true
+  feeds-feeder : (p : ℕ) → inUse m p ≡ true → (p ≡ x → ⊥) → Feeds m p x → feeder m x p ≡ true
   unfolding feeder
-  by-flow p u e f = and-i (and-i u (rw (ne-eqb p x e))) (or-l (hasFlow m p x) _ f)
-
-  by-driver : (p : ℕ) → inUse m p ≡ true → (p ≡ x → ⊥) → object m x ≡ true → driverOf m x ≡ p → feeder m x p ≡ true
-  unfolding feeder objectOf
-  by-driver p u e o d = and-i (and-i u (rw (ne-eqb p x e))) (or-r (hasFlow m p x) _ (and-i o (eq-eqb _ _ d)))
+  feeds-feeder p u e f = and-i (and-i u (rw (ne-eqb p x e))) (feeds-so m p x f)
 
   -- and one from x goes to what it fed
   fed-flow : (q : ℕ) → inUse m q ≡ true → (q ≡ x → ⊥) → hasFlow m x q ≡ true → fedBy m x q ≡ true
@@ -58,20 +55,20 @@ module _ {size : Size} (m n : MemoryOf size) (x : ℕ) (b : Bypasses m n x) wher
 
     -- a path is followed step by step
     past : {y : ℕ} → Reach m S y → Past y
-    past (at y l u s) = ⊎-elim (λ (e : y ≡ x). inl (e, inr (subst S e s))) (λ (e : y ≡ x → ⊥). inr (e, at y l (b .used y e ∙ u) (stay y e s))) (is-number y x)
-    past (along z y r l u f) = ⊎-elim (enters (past r)) (goes (past r)) (is-number y x)
+    past (at y l u s) = ⊎-elim (λ (e : y ≡ x). inl (e, inr (subst S e s))) (λ (e : y ≡ x → ⊥). inr (e, at y l (b .used y e ∙ u) (stay y e s))) (equal-or-not y x)
+    past (along z y r l u f) = ⊎-elim (enters (past r)) (goes (past r)) (equal-or-not y x)
       where
         enters : Past z → y ≡ x → Past y
         enters so e =
             ⊎-elim (λ (q : (z ≡ x) × Before). inl (e, q .1))
-            (λ (q : (z ≡ x → ⊥) × Reach n T z). inl (e, inl (z, by-flow z (reach-used r) (q .0) (subst (λ (k : ℕ). hasFlow m z k ≡ true) e f), q .1))) so
+            (λ (q : (z ≡ x → ⊥) × Reach n T z). inl (e, inl (z, feeds-feeder z (reach-used r) (q .0) (inl (subst (λ (k : ℕ). hasFlow m z k ≡ true) e f)), q .1))) so
 
         leaves : (y ≡ x → ⊥) → hasFlow m x y ≡ true → Before → Reach n T y
         leaves e g (inl p) =
             let fed = fed-flow y u e g in
             ⊎-elim (λ (d : y ≡ p .0). subst (Reach n T) (sym d) (p .2))
             (λ (d : y ≡ p .0 → ⊥). along (p .0) y (p .2) l (b .used y e ∙ u) (b .bridges (p .0) y (reach-below (p .2)) l (p .1) fed d))
-            (is-number y (p .0))
+            (equal-or-not y (p .0))
         leaves e g (inr s) = at y l (b .used y e ∙ u) (hand s y (fed-flow y u e g) e)
 
         goes : Past z → (y ≡ x → ⊥) → Past y
@@ -85,8 +82,8 @@ module _ {size : Size} (m n : MemoryOf size) (x : ℕ) (b : Bypasses m n x) wher
       where
         from : (z ≡ x → ⊥) × Reach n T z → Past y
         from q =
-            ⊎-elim (λ (e : y ≡ x). inl (e, inl (z, by-driver z (reach-used r) (q .0) (subst (λ (k : ℕ). object m k ≡ true) e o) (subst (λ (k : ℕ). driverOf m k ≡ z) e d), q .1)))
-            (λ (e : y ≡ x → ⊥). inr (e, down z y (q .1) l (b .objects y e ∙ o) (b .drivers y e ∙ d))) (is-number y x)
+            ⊎-elim (λ (e : y ≡ x). inl (e, inl (z, feeds-feeder z (reach-used r) (q .0) (inr (subst (λ (k : ℕ). object m k ≡ true) e o, subst (λ (k : ℕ). driverOf m k ≡ z) e d)), q .1)))
+            (λ (e : y ≡ x → ⊥). inr (e, down z y (q .1) l (b .objects y e ∙ o) (b .drivers y e ∙ d))) (equal-or-not y x)
 
     -- what stays and was reached from S is reached from T
     pub reach-past : (y : ℕ) → inUse n y ≡ true → Reach m S y → Reach n T y
@@ -98,17 +95,20 @@ module _ {size : Size} (m n : MemoryOf size) (x : ℕ) (b : Bypasses m n x) wher
 
   -- B: what stays and is in reach of a marked thing stays in reach of one, if x is unmarked or all it feeds is marked
   pub past-fed : (marked m x ≡ true → (q : ℕ) → fedBy m x q ≡ true → marked m q ≡ true) → (y : ℕ) → inUse n y ≡ true → Fed m y → Fed n y
-  past-fed sixteen y uy r =
-      reach-past (λ z. marked m z ≡ true) (λ z. marked n z ≡ true) (λ z e s. b .marks z e ∙ s) (λ s q f e. b .marks q e ∙ sixteen s q f) y uy r
+  past-fed feeding y uy r =
+      reach-past (λ z. marked m z ≡ true) (λ z. marked n z ≡ true) (λ z e s. b .marks z e ∙ s) (λ s q f e. b .marks q e ∙ feeding s q f) y uy r
 
 -- ---- bridging and clearing an object does this
+
+abbrev pub bypassed : {size : Size} → MemoryOf size → ℕ → MemoryOf size
+bypassed m x = effect (clear x) (effect (bridge x) m)
+
+pub bypassed-long : {size : Size} {m : MemoryOf size} → Long m → (x : ℕ) → Long (bypassed m x)
+bypassed-long long x = effect-long (clear x) (effect-long (bridge x) long)
 
 module _ {size : Size} (m : MemoryOf size) (long : Long m) (x : ℕ) (o : object m x ≡ true) (drivers : (y : ℕ) → object m y ≡ true → task m (driverOf m y) ≡ true) where
   abbrev between : MemoryOf size
   between = effect (bridge x) m
-
-  abbrev cleared : MemoryOf size
-  cleared = effect (clear x) between
 
   below : x < numbersOf size
   below = used-below m x (long .bytes-long) (object-used m x o)
@@ -117,7 +117,7 @@ module _ {size : Size} (m : MemoryOf size) (long : Long m) (x : ℕ) (o : object
   long′ = effect-long (bridge x) long
 
   -- a flow that was there or is bridged, and is not x's, is there afterwards
-  kept-flow : (u v : ℕ) → u < numbersOf size → v < numbersOf size → (u ≡ x → ⊥) → (v ≡ x → ⊥) → (hasFlow m u v || (feeder m x u && (fedBy m x v && not (eqb v u)))) ≡ true → hasFlow cleared u v ≡ true
+  kept-flow : (u v : ℕ) → u < numbersOf size → v < numbersOf size → (u ≡ x → ⊥) → (v ≡ x → ⊥) → (hasFlow m u v || (feeder m x u && (fedBy m x v && not (eqb v u)))) ≡ true → hasFlow (bypassed m x) u v ≡ true
   kept-flow u v lu lv eu ev h =
       flow-after u v lu lv (clear x) between long′ below
       ∙ and-i (and-i (flow-after u v lu lv (bridge x) m long tt ∙ h) (rw (ne-eqb u x eu))) (rw (ne-eqb v x ev))
@@ -131,7 +131,7 @@ module _ {size : Size} (m : MemoryOf size) (long : Long m) (x : ℕ) (o : object
   unfolding fedBy
   fed-not q h = let t = simp and-eq-true-iff at h in eqb-false q x (not-true (eqb q x) (t .0 .1))
 
-  pub delete-bypasses : Bypasses m cleared x
+  pub delete-bypasses : Bypasses m (bypassed m x) x
   delete-bypasses =
       record {
         gone = inUse-after x (clear x) between long′ below ∙ rw (eq-eqb x x refl);
@@ -149,24 +149,17 @@ module _ {size : Size} (m : MemoryOf size) (long : Long m) (x : ℕ) (o : object
 
 module _ {size : Size} (m : MemoryOf size) (long : Long m) (x : ℕ) (u : inUse m x ≡ true) (S : ℕ → Type 0) where
   -- what is bridged went through x
-  through : (z y : ℕ) → y < numbersOf size → Reach m S z → (feeder m x z && (fedBy m x y && not (eqb y z))) ≡ true → Reach m S y
-  unfolding feeder fedBy objectOf
-  through z y l r h =
-      let t = simp and-eq-true-iff at h in
-      along x y (into (or-cases (hasFlow m z x) (object m x && eqb (driverOf m x) z) (t .0 .1))) l (t .1 .0 .0 .0) (t .1 .0 .1)
-    where
-      lx : x < numbersOf size
-      lx = used-below m x (long .bytes-long) u
-
-      into : (hasFlow m z x ≡ true) ⊎ ((object m x && eqb (driverOf m x) z) ≡ true) → Reach m S x
-      into (inl f) = along z x r lx u f
-      into (inr d) = let t = simp and-eq-true-iff at d in down z x r lx (t .0) (eqb-true (driverOf m x) z (t .1))
+  through : (z y : ℕ) → Reach m S z → feeder m x z ≡ true → fedBy m x y ≡ true → Reach m S y
+  unfolding feeder fedBy
+  through z y r p q =
+      let t = simp and-eq-true-iff at p in
+      let v = simp and-eq-true-iff at q in
+      reach-step long x y (v .0 .0) (inl (v .1)) (reach-step long z x u (feeds-by m z x (hasFlow m z x) (λ f. f) (t .1)) r)
 
   -- C: bridging makes no path that was not there
   pub bridge-adds-none : {y : ℕ} → Reach (effect (bridge x) m) S y → Reach m S y
-  unfolding effect inUse object
+  unfolding effect inUse object hasFlow
   bridge-adds-none (at y l v s) = at y l v s
   bridge-adds-none (down z y r l o d) = down z y (bridge-adds-none r) l o d
   bridge-adds-none (along z y r l v f) =
-      ⊎-elim (λ h. along z y (bridge-adds-none r) l v h) (through z y l (bridge-adds-none r))
-      (or-cases (hasFlow m z y) (feeder m x z && (fedBy m x y && not (eqb y z))) (sym (flow-after z y (reach-below r) l (bridge x) m long tt) ∙ f))
+      ⊎-elim (λ h. along z y (bridge-adds-none r) l v h) (λ h. through z y (bridge-adds-none r) (h .1) (h .2)) (has-bridged m long z y (reach-below r) l x flows f)

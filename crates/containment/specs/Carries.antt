@@ -1,23 +1,22 @@
--- What has to stay over one call other than a start: paths (A), what marks reach (B), and that marks come along paths. Effects that clear nothing only add.
+-- What has to stay over one call other than a start: paths (A), what marks reach (B), and that marks come along paths. Effects that neither bridge nor clear only add.
 -- Assumes nothing.
-use mathlib.Core.Path.{_≡_, refl, sym, ap, _∙_}
-use mathlib.Core.Bool.{true, false, not, true≢false}
+use mathlib.Core.Path.{_≡_, refl, _∙_}
+use mathlib.Core.Bool.{true, false}
 use mathlib.Core.Logic.{_⊎_, inl, inr}
 use mathlib.Core.List.{List, [], _∷_}
 use Prim.Native.Nat.{ℕ, _<_}
 use native.Mathlib.Omega.{arith}
-use borrow.Author.Tests.{ne-eqb}
 use Rattle.bits.specs.AllLaws.{or-l}
 use Rattle.rows.specs.RowLaws.{add-kept}
 use Rattle.rows.specs.Size.{Size, rowSizeOf, numbersOf}
 use Rattle.records.specs.Records.{field, isObject}
-use Rattle.records.specs.RecordLaws.{field-else}
+use Rattle.records.specs.RecordLaws.{field-else, record-else}
 use Rattle.model.specs.State.{MemoryOf, inUse, task, object, marked, hasFlow}
-use Rattle.model.specs.StateLaws.{task-used, object-used, used-below}
+use Rattle.model.specs.StateLaws.{task-used, object-used, used-apart, used-below}
 use Rattle.model.specs.Effects.{Effect, flow, flow-if, read-access, write-access, make-task, make-object, move-to, bridge, clear, mark-outside, mark-thing, withWords, effect, effects}
-use Rattle.model.specs.MarkLaws.{where-words, where-field}
-use Rattle.model.specs.EffectLaws.{Long, effect-long, effects-long, byte-after, marked-after, outside-marked, thing-marked}
-use Rattle.containment.specs.Reach.{Reach, at, Path, Fed, Grows, grows-none, grows-then, reach-grows}
+use Rattle.model.specs.MarkLaws.{MoreMarks, kept-marked, kept-inUse, kept-object, kept-driver, kept-flow, where-words, where-more}
+use Rattle.model.specs.EffectLaws.{Long, effect-long, effects-long, byte-after, outside-marked}
+use Rattle.containment.specs.Reach.{Reach, Path, Fed, reach-here, Grows, grows-none, grows-then, reach-grows}
 
 -- ---- from m to n, where the call names the tasks in E
 
@@ -49,7 +48,7 @@ Nobody y = ⊥
 -- where nothing is marked that was not, marks come along paths
 pub same-origin : {size : Size} (m n : MemoryOf size) (E : ℕ → Type 0) → Long n
     → ((x : ℕ) → inUse n x ≡ true → marked n x ≡ true → (inUse m x ≡ true) × (marked m x ≡ true)) → Origin m n E
-same-origin m n E l h x u k = at x (used-below n x (l .bytes-long) u) u (inl (h x u k))
+same-origin m n E l h x u k = reach-here l x u (inl (h x u k))
 
 -- what only adds keeps paths
 pub grows-carries : {size : Size} (m n : MemoryOf size) (E : ℕ → Type 0) → Grows m n → Origin m n E → Naming n E → Carries m n E
@@ -69,8 +68,8 @@ Quiet m (flow x y) = Unit {0}
 Quiet m (flow-if b x y) = Unit {0}
 Quiet m (read-access e x) = Unit {0}
 Quiet m (write-access e x) = Unit {0}
-Quiet {size} m (make-task n l r) = (n < numbersOf size) × (inUse m n ≡ false)
-Quiet {size} m (make-object n l d c b) = (n < numbersOf size) × (inUse m n ≡ false)
+Quiet m (make-task n l r) = inUse m n ≡ false
+Quiet m (make-object n l d c b) = inUse m n ≡ false
 Quiet m (move-to x c) = Unit {0}
 Quiet m (bridge x) = ⊥
 Quiet m (clear x) = ⊥
@@ -95,13 +94,27 @@ bytes-grow m n words kept marks =
       marks = marks;
     }
 
+-- only marks are added
+pub more-grows : {size : Size} {m n : MemoryOf size} → MoreMarks m n → Grows m n
+more-grows more =
+    record {
+      used = λ x u. kept-inUse more x ∙ u;
+      objects = λ x u. (kept-object more x ∙ u, kept-driver more x);
+      flows = λ x y f. kept-flow more x y ∙ f;
+      marks = λ x u k. kept-marked more x k;
+    }
+
 module _ {size : Size} (m : MemoryOf size) (long : Long m) where
   below : (x : ℕ) → inUse m x ≡ true → x < numbersOf size
   below x = used-below m x (long .bytes-long)
 
-  -- what is in use is not what is free
-  apart : (x n : ℕ) → inUse m n ≡ false → inUse m x ≡ true → x ≡ n → ⊥
-  apart x n free u d = true≢false (sym u ∙ ap (inUse m) d ∙ free)
+  -- what makes a thing n leaves all that is in use as it was
+  made-grows : (e : Effect) (n : ℕ) → effect e m .words ≡ m .words → inUse m n ≡ false
+      → ((x f : ℕ) → f < 8 → (x ≡ n → ⊥) → field (effect e m .bytes) x f ≡ field (m .bytes) x f) → Grows m (effect e m)
+  unfolding marked
+  made-grows e n words free off =
+      bytes-grow m (effect e m) words (λ x f lf u. off x f (omega arith) (used-apart m x n u free))
+      (λ x u h. rw (off x 5 (omega arith) (used-apart m x n u free)) h)
 
   -- such an effect only adds
   effect-grows : (e : Effect) → Quiet m e → Grows m (effect e m)
@@ -111,14 +124,8 @@ module _ {size : Size} (m : MemoryOf size) (long : Long m) where
   effect-grows (flow-if false x y) q = words-grow m _ (λ u v h. h)
   effect-grows (read-access e x) q = words-grow m _ (λ u v h. add-kept (rowSizeOf size) (m .words) _ x u v h)
   effect-grows (write-access e x) q = words-grow m _ (λ u v h. add-kept (rowSizeOf size) (m .words) _ x u v h)
-  effect-grows (make-task n l r) q =
-      bytes-grow m _ refl
-      (λ x f lf u. byte-after (λ b. b) x f (omega arith) (make-task n l r) m long (q .0) tt ∙ rw (ne-eqb x n (apart x n (q .1) u)))
-      (λ x u h. marked-after x (make-task n l r) m long (q .0, tt) ∙ rw (ne-eqb x n (apart x n (q .1) u)) h)
-  effect-grows (make-object n l d c b) q =
-      bytes-grow m _ refl
-      (λ x f lf u. byte-after (λ b. b) x f (omega arith) (make-object n l d c b) m long (q .0) tt ∙ rw (ne-eqb x n (apart x n (q .1) u)))
-      (λ x u h. marked-after x (make-object n l d c b) m long (q .0, tt) ∙ rw (ne-eqb x n (apart x n (q .1) u)) h)
+  effect-grows (make-task n l r) q = made-grows (make-task n l r) n refl q (λ x f lf h. record-else (m .bytes) n _ _ _ _ _ _ _ x f h lf)
+  effect-grows (make-object n l d c b) q = made-grows (make-object n l d c b) n refl q (λ x f lf h. record-else (m .bytes) n _ _ _ _ _ _ _ x f h lf)
   effect-grows (move-to y c) q =
       bytes-grow m _ refl (λ x f lf u. field-else (m .bytes) y 4 c x f (omega arith) (omega arith) (inr (omega arith)))
       (λ x u h. rw (field-else (m .bytes) y 4 c x 5 (omega arith) (omega arith) (inr (omega arith))) h)
@@ -128,8 +135,7 @@ module _ {size : Size} (m : MemoryOf size) (long : Long m) where
       bytes-grow m _ (where-words _ _)
       (λ x f lf u. byte-after (λ b. b) x f (omega arith) (mark-outside e) m long (below e (task-used m e q)) (omega arith))
       (λ x u h. outside-marked x m long (below x u) e (below e (task-used m e q)) ∙ or-l (marked m x) _ h)
-  effect-grows (mark-thing y) q =
-      bytes-grow m _ (where-words _ m) (λ x f lf u. where-field _ m x f (omega arith) (omega arith)) (λ x u h. thing-marked x m long (below x u) y ∙ or-l (marked m x) _ h)
+  effect-grows (mark-thing y) q = more-grows (where-more _ m)
 
 -- ---- lists of them
 

@@ -30,9 +30,9 @@ fits-same : {size : Size} (m n : MemoryOf size) → length (n .bytes) ≡ length
 unfolding lengthsFit
 fits-same m n b w h = rw (b, w) h
 
--- a number is another or not
-pub is-number : (x p : ℕ) → (x ≡ p) ⊎ (x ≡ p → ⊥)
-is-number x p = ⊎-elim (λ e. inl (eqb-true x p e)) (λ e. inr (eqb-false x p e)) (either (eqb x p))
+-- two numbers are equal or not
+pub equal-or-not : (x p : ℕ) → (x ≡ p) ⊎ (x ≡ p → ⊥)
+equal-or-not x p = ⊎-elim (λ e. inl (eqb-true x p e)) (λ e. inr (eqb-false x p e)) (either (eqb x p))
 
 -- ---- words
 
@@ -81,7 +81,7 @@ module _ {size : Size} (o : Order) (m n : MemoryOf size) (ts : List ℕ) (p : �
       record {
         tasks = task-same;
         marks = λ x h g. task-marked x h ∙ g;
-        things = λ x h g. ⊎-elim (λ (e : x ≡ p). absurd (apart (rw e at h) (rw e at g))) (off-same x) (is-number x p);
+        things = λ x h g. ⊎-elim (λ (e : x ≡ p). absurd (apart (rw e at h) (rw e at g))) (off-same x) (equal-or-not x p);
         named = λ t h. h;
         recorded = λ t x y a b h.
             let f = old t x y a b h in
@@ -90,7 +90,7 @@ module _ {size : Size} (o : Order) (m n : MemoryOf size) (ts : List ℕ) (p : �
       }
 
   pub one-limits : Follows o m n ts ts → lengthsFit n ≡ true → Bounded (standing o n ts) p → Limits (standing o n ts)
-  one-limits f fits here = limits-follow f k fits (λ x l. ⊎-elim (λ (e : x ≡ p). rw e here) (other x l) (is-number x p)) named
+  one-limits f fits here = limits-follow f k fits (λ x l. ⊎-elim (λ (e : x ≡ p). rw e here) (other x l) (equal-or-not x p)) named
     where
       other : (x : ℕ) → x < numbersOf size → (x ≡ p → ⊥) → Bounded (standing o n ts) x
       other x l d =

@@ -1,12 +1,12 @@
 -- The trail is exact without the flows that bridging records: what a call did not record itself is a path that it found.
 -- Assumes nothing.
 use mathlib.Core.Path.{_≡_, refl, sym, ap, _∙_}
-use mathlib.Core.Bool.{true, not, _&&_, _||_, and-eq-true-iff}
-use mathlib.Core.Logic.{inl, inr, ⊎-elim}
+use mathlib.Core.Bool.{true, not, _&&_, and-eq-true-iff}
+use mathlib.Core.Logic.{_⊎_, inl, inr, ⊎-elim}
 use mathlib.Core.List.{List, [], _∷_}
 use Prim.Native.Nat.{ℕ, _<_}
 use lib.Dec.{eqb}
-use Rattle.bits.specs.AllLaws.{either, or-cases, or-r, and-i, and-l}
+use Rattle.bits.specs.AllLaws.{either, or-cases, and-i, and-l}
 use Rattle.rows.specs.Size.{Size, numbersOf}
 use Rattle.levels.specs.declared.Order.{Order}
 use Rattle.levels.specs.OrderLaws.{is-order}
@@ -15,7 +15,7 @@ use Rattle.model.specs.declared.Call.the-variants.{Start, Read, Write, Execute,
 use Rattle.model.specs.Verdicts.{isDone}
 use Rattle.model.specs.State.{MemoryOf, inUse, task, object, marked, hasFlow}
 use Rattle.model.specs.StateLaws.{task-used, object-used, used-below}
-use Rattle.model.specs.Effects.{flow-if, bridge, clear, effect, effects}
+use Rattle.model.specs.Effects.{Effect, flow-if, bridge, clear, effect, effects}
 use Rattle.model.specs.EffectLaws.{Long, fit-long, effect-long, flow-after}
 use Rattle.model.specs.Events.{delete}
 use Rattle.model.specs.Monitor.{perform}
@@ -27,9 +27,9 @@ use Rattle.containment.specs.Invariant.{Limits, Invariant, contained}
 use Rattle.containment.specs.Preserve.{effect-keeps}
 use Rattle.containment.specs.CallsKeep.{NoStart}
 use Rattle.containment.specs.ItemsKeep.{begun-keeps, next-keeps, run-keeps}
-use Rattle.containment.specs.History.{direct, counts}
+use Rattle.containment.specs.History.{direct, ownFlow, counts}
 use Rattle.containment.specs.Reach.{at, along, Path}
-use Rattle.containment.specs.Bypass.{bridge-adds-none}
+use Rattle.containment.specs.Bypass.{bypassed, bypassed-long, bridge-adds-none}
 use Rattle.containment.specs.Trails.{Counted, ItemCounted, AllCounted, counted-trail}
 
 -- within the limits a flow is a path, since it joins things in use
@@ -43,87 +43,76 @@ module _ {size : Size} (s : StandingOf size) (i : Invariant s) where
   long : Long m
   long = fit-long m (i .limits .fits)
 
-  -- ---- a call that counts what it leaves and did not find
+  -- ---- what a call leaves, did not find and has not recorded itself must be a path that it found
 
-  found-counted : (o : Order) (c : Call) → isDone (perform o m c .verdict) ≡ true
-      → ((x y : ℕ) → counts direct c m (perform o m c .memory) x y ≡ (hasFlow (perform o m c .memory) x y && not (hasFlow m x y))) → Counted direct c m (perform o m c .memory)
-  found-counted o c h same =
+  own-counted : (c : Call) (n : MemoryOf size) → Long n → ((x y : ℕ) → x < numbersOf size → y < numbersOf size → hasFlow n x y ≡ true → (ownFlow c m x y ≡ true) ⊎ Path m x y) → Counted direct c m n
+  unfolding counts
+  own-counted c n l own =
       record {
-        recorded = λ x y ux uy f. and-l (hasFlow n x y) _ (sym (same x y) ∙ f);
-        found = λ x y ux uy f. ⊎-elim (λ e. inr (flow-path s (i .limits) x y (below x ux) (below y uy) e)) (λ e. inl (same x y ∙ and-i f (ap not e))) (either (hasFlow m x y));
+        recorded = λ x y ux uy f. and-l (hasFlow n x y) _ (and-l (hasFlow n x y && not (hasFlow m x y)) _ f);
+        found = λ x y ux uy f.
+            let lx = used-below n x (l .bytes-long) ux in
+            let ly = used-below n y (l .bytes-long) uy in
+            ⊎-elim (λ e. inr (flow-path s (i .limits) x y lx ly e)) (λ e. ⊎-elim (λ g. inl (and-i (and-i f (ap not e)) g)) (λ g. inr g) (own x y lx ly f)) (either (hasFlow m x y));
       }
-    where
-      n : MemoryOf size
-      n = perform o m c .memory
 
-      below : (x : ℕ) → inUse n x ≡ true → x < numbersOf size
-      below x = used-below n x (fit-long n (leaves-sound size o m c h .0) .bytes-long)
-
-  -- ---- a deletion counts the flow from its asker to its marked driver; the others were there, or are bridged
+  -- ---- of a deletion: all but its own flow were there, or are bridged
 
   delete-counted : (e d x q : ℕ) → task m e ≡ true → task m d ≡ true → object m x ≡ true → Counted direct (Delete e d x q) m (effects (bridge x ∷ clear x ∷ flow-if (marked m d) e d ∷ []) m)
-  unfolding effects counts
+  unfolding effects
   delete-counted e d x q te td ox =
-      record {
-        recorded = λ u v uu uv f. asked u v (below u uu) (below v uv) ∙ or-r (hasFlow cleared u v) _ f;
-        found = λ u v uu uv f.
-            ⊎-elim (λ g. inr (bridged u v (below u uu) (below v uv) g)) (λ g. inl g)
-            (or-cases (hasFlow cleared u v) (marked m d && (eqb u e && eqb v d)) (sym (asked u v (below u uu) (below v uv)) ∙ f));
-      }
+      own-counted (Delete e d x q) (effect own cleared) (effect-long own long′)
+      (λ u v lu lv f.
+      ⊎-elim (λ g. inr (bridged u v lu lv g)) (λ g. inl g)
+      (or-cases (hasFlow cleared u v) (marked m d && (eqb u e && eqb v d)) (sym (flow-after u v lu lv own cleared long′ (below e (task-used m e te), below d (task-used m d td))) ∙ f)))
     where
-      between : MemoryOf size
-      between = effect (bridge x) m
-
       cleared : MemoryOf size
-      cleared = effect (clear x) between
+      cleared = bypassed m x
 
-      last : MemoryOf size
-      last = effect (flow-if (marked m d) e d) cleared
+      own : Effect
+      own = flow-if (marked m d) e d
 
       long′ : Long cleared
-      long′ = effect-long (clear x) (effect-long (bridge x) long)
+      long′ = bypassed-long long x
 
-      found-below : (y : ℕ) → inUse m y ≡ true → y < numbersOf size
-      found-below y = used-below m y (long .bytes-long)
-
-      below : (y : ℕ) → inUse last y ≡ true → y < numbersOf size
-      below y = used-below last y (effect-long (flow-if (marked m d) e d) long′ .bytes-long)
-
-      -- the flows that it leaves
-      asked : (u v : ℕ) → u < numbersOf size → v < numbersOf size → hasFlow last u v ≡ (hasFlow cleared u v || (marked m d && (eqb u e && eqb v d)))
-      asked u v lu lv = flow-after u v lu lv (flow-if (marked m d) e d) cleared long′ (found-below e (task-used m e te), found-below d (task-used m d td))
+      below : (y : ℕ) → inUse m y ≡ true → y < numbersOf size
+      below y = used-below m y (long .bytes-long)
 
       -- what was there or is bridged was a path (C)
       bridged : (u v : ℕ) → u < numbersOf size → v < numbersOf size → hasFlow cleared u v ≡ true → Path m u v
       bridged u v lu lv f =
           let ux = object-used m x ox in
           let k = effect-keeps s (is-order (s .order) (i .passes)) (i .limits) (bridge x) ux in
-          let g = simp and-eq-true-iff at (sym (flow-after u v lu lv (clear x) between (effect-long (bridge x) long) (found-below x ux)) ∙ f) in
+          let g = simp and-eq-true-iff at (sym (flow-after u v lu lv (clear x) (effect (bridge x) m) (effect-long (bridge x) long) (below x ux)) ∙ f) in
           bridge-adds-none m long x ux (λ z. u ≡ z) (flow-path _ k u v lu lv (g .0 .0))
 
   -- ---- every call
 
+  -- of any other call every flow is its own
+  other-counted : (o : Order) (c : Call) → isDone (perform o m c .verdict) ≡ true → ((x y : ℕ) → ownFlow c m x y ≡ true) → Counted direct c m (perform o m c .memory)
+  other-counted o c h own = own-counted c (perform o m c .memory) (fit-long _ (leaves-sound size o m c h .0)) (λ x y lx ly f. inl (own x y))
+
   call-counted : (o : Order) (c : Call) → isDone (perform o m c .verdict) ≡ true → NoStart (role c) → Counted direct c m (perform o m c .memory)
-  unfolding counts delete
+  unfolding delete
   call-counted o (Delete e d x q) h w =
       let t = event-done o m (delete o m e d x q) refl h in
       let a = simp and-eq-true-iff at (t .tests .0) in
       rw (t .leaves) (delete-counted e d x q (a .0 .0 .0) (a .0 .0 .1) (a .0 .1))
   call-counted o Start h w = absurd w
-  call-counted o (Read e d x) h w = found-counted o (Read e d x) h (λ u v. refl)
-  call-counted o (Write e d x) h w = found-counted o (Write e d x) h (λ u v. refl)
-  call-counted o (Execute c p n l r) h w = found-counted o (Execute c p n l r) h (λ u v. refl)
-  call-counted o (Create c d n q l) h w = found-counted o (Create c d n q l) h (λ u v. refl)
-  call-counted o (CreateRoot c d n l) h w = found-counted o (CreateRoot c d n l) h (λ u v. refl)
-  call-counted o (Move e d x f t) h w = found-counted o (Move e d x f t) h (λ u v. refl)
-  call-counted o (CallTask a b) h w = found-counted o (CallTask a b) h (λ u v. refl)
-  call-counted o (Invoke a b) h w = found-counted o (Invoke a b) h (λ u v. refl)
-  call-counted o (Pass z x y) h w = found-counted o (Pass z x y) h (λ u v. refl)
-  call-counted o (Post x z y) h w = found-counted o (Post x z y) h (λ u v. refl)
-  call-counted o (Find x z y) h w = found-counted o (Find x z y) h (λ u v. refl)
-  call-counted o (Mark e) h w = found-counted o (Mark e) h (λ u v. refl)
-  call-counted o (Step x) h w = found-counted o (Step x) h (λ u v. refl)
-  call-counted o Spread h w = found-counted o Spread h (λ u v. refl)
+  call-counted o (Read e d x) h w = other-counted o (Read e d x) h (λ u v. refl)
+  call-counted o (Write e d x) h w = other-counted o (Write e d x) h (λ u v. refl)
+  call-counted o (Execute c p n l r) h w = other-counted o (Execute c p n l r) h (λ u v. refl)
+  call-counted o (Create c d n q l) h w = other-counted o (Create c d n q l) h (λ u v. refl)
+  call-counted o (CreateRoot c d n l) h w = other-counted o (CreateRoot c d n l) h (λ u v. refl)
+  call-counted o (Move e d x f t) h w = other-counted o (Move e d x f t) h (λ u v. refl)
+  call-counted o (CallTask a b) h w = other-counted o (CallTask a b) h (λ u v. refl)
+  call-counted o (Invoke a b) h w = other-counted o (Invoke a b) h (λ u v. refl)
+  call-counted o (Pass z x y) h w = other-counted o (Pass z x y) h (λ u v. refl)
+  call-counted o (Post x z y) h w = other-counted o (Post x z y) h (λ u v. refl)
+  call-counted o (Find x z y) h w = other-counted o (Find x z y) h (λ u v. refl)
+  call-counted o (Mark e) h w = other-counted o (Mark e) h (λ u v. refl)
+  call-counted o (Step x) h w = other-counted o (Step x) h (λ u v. refl)
+  call-counted o Spread h w = other-counted o Spread h (λ u v. refl)
 
   item-counted : (j : Item) → ItemCounted direct j s
   item-counted (asks o c) = call-counted o c

@@ -1,5 +1,5 @@
 -- The history of a list, for document 02's deletions: lives, which of them were joined, and which of them granted marks have named, since the state of a
--- start. It is told from the calls of the list and from what they leave; it uses no definition of the spread or of the bridging.
+-- start. It is told from the calls of the list and from what they leave; how the spread or the bridging comes to that plays no part.
 -- Assumes nothing.
 use mathlib.Core.Path.{_≡_}
 use mathlib.Core.Bool.{Bool, true, false, not, cond, _&&_, _||_}
@@ -10,7 +10,8 @@ use Rattle.rows.specs.Size.{Size}
 use Rattle.model.specs.declared.Call.{Call}
 use Rattle.model.specs.declared.Call.the-variants.{Start, Read, Write, Execute, Create, CreateRoot, Move, Delete, CallTask, Invoke, Pass, Post, Find, Mark, Step, Spread}
 use Rattle.model.specs.Verdicts.{isDone}
-use Rattle.model.specs.State.{MemoryOf, inUse, object, driverOf, marked, hasFlow}
+use Rattle.model.specs.State.{MemoryOf, inUse, marked, hasFlow}
+use Rattle.model.specs.Effects.{objectOf}
 use Rattle.model.specs.Monitor.{perform}
 use Rattle.model.specs.Load.{load, pastOrder}
 use Rattle.containment.specs.Lists.{Item, asks, reports, loads, StandingOf, Role, starting, marking, other, role, next, begun}
@@ -30,55 +31,60 @@ pub record History : Type 0 where
   -- the lives that granted marks have named
   pub named : List Life
 
--- the life that the number has now, or would get
+-- no life is over, joined or named
+unfoldable pub nothing : History
+nothing = record { ended = λ x. 0; joined = λ a b. false; named = [] }
+
+-- the life that the number has now or, if it is free, its next one
 unfoldable pub lifeOf : History → ℕ → Life
 lifeOf h x = record { number = x; before = h .ended x }
 
--- `Trail h a`: a chain of joins leads to the life a from one that a granted mark named. When each was joined does not matter
+-- `Trail h a`: a chain of joins leads to the life a from one that a granted mark named, in whatever order they were joined
 pub data Trail (h : History) : Life → Type 0 where
   from : (a : Life) → List·Memᴰ a (h .named) → Trail h a
   onward : (a b : Life) → Trail h a → h .joined a b ≡ true → Trail h b
 
--- a is the life that its number has now, or would get, where `ended` tells how many are over
+-- a is that life of its number, where `ended` tells how many are over
 unfoldable pub isNow : (ℕ → ℕ) → Life → Bool
 isNow ended a = eqb (a .before) (ended (a .number))
 
 -- ---- what joins lives
 
--- every flow between things in use: a flow that stands was recorded in their present lives, since a free number has none (claim FreeBare, for the lists of demand 3). Or directly only
--- what a call recorded itself, a deletion's bridging left out
+-- which flows join
 pub data Counting : Type 0 where
+  -- each that stands between things in use: it was recorded in their present lives, since a free number has none (claim FreeBare, for the lists of demand 3)
   every : Counting
+  -- each that a call leaves and did not find, but for those that a deletion's bridging recorded
   direct : Counting
 
 module _ {size : Size} where
-  -- the flow from u to v that a call recorded itself, which found m and leaves n: of a deletion document 01 has one, from its asker to its marked driver
-  abbrev pub recordedBy : Call → MemoryOf size → MemoryOf size → ℕ → ℕ → Bool
-  recordedBy (Delete e d x k) m n u v = marked m d && (eqb u e && eqb v d)
-  recordedBy Start m n u v = hasFlow n u v && not (hasFlow m u v)
-  recordedBy (Read e d x) m n u v = hasFlow n u v && not (hasFlow m u v)
-  recordedBy (Write e d x) m n u v = hasFlow n u v && not (hasFlow m u v)
-  recordedBy (Execute c i k l r) m n u v = hasFlow n u v && not (hasFlow m u v)
-  recordedBy (Create c d i k l) m n u v = hasFlow n u v && not (hasFlow m u v)
-  recordedBy (CreateRoot c d i l) m n u v = hasFlow n u v && not (hasFlow m u v)
-  recordedBy (Move e d x f t) m n u v = hasFlow n u v && not (hasFlow m u v)
-  recordedBy (CallTask a b) m n u v = hasFlow n u v && not (hasFlow m u v)
-  recordedBy (Invoke a b) m n u v = hasFlow n u v && not (hasFlow m u v)
-  recordedBy (Pass z x y) m n u v = hasFlow n u v && not (hasFlow m u v)
-  recordedBy (Post x z y) m n u v = hasFlow n u v && not (hasFlow m u v)
-  recordedBy (Find x z y) m n u v = hasFlow n u v && not (hasFlow m u v)
-  recordedBy (Mark e) m n u v = hasFlow n u v && not (hasFlow m u v)
-  recordedBy (Step x) m n u v = hasFlow n u v && not (hasFlow m u v)
-  recordedBy Spread m n u v = hasFlow n u v && not (hasFlow m u v)
+  -- the flow from u to v is none of bridging's, if the call, which found m, has recorded it: of a deletion only document 01's is, from its asker to its marked driver
+  abbrev pub ownFlow : Call → MemoryOf size → ℕ → ℕ → Bool
+  ownFlow (Delete e d x k) m u v = marked m d && (eqb u e && eqb v d)
+  ownFlow Start m u v = true
+  ownFlow (Read e d x) m u v = true
+  ownFlow (Write e d x) m u v = true
+  ownFlow (Execute c i k l r) m u v = true
+  ownFlow (Create c d i k l) m u v = true
+  ownFlow (CreateRoot c d i l) m u v = true
+  ownFlow (Move e d x f t) m u v = true
+  ownFlow (CallTask a b) m u v = true
+  ownFlow (Invoke a b) m u v = true
+  ownFlow (Pass z x y) m u v = true
+  ownFlow (Post x z y) m u v = true
+  ownFlow (Find x z y) m u v = true
+  ownFlow (Mark e) m u v = true
+  ownFlow (Step x) m u v = true
+  ownFlow Spread m u v = true
 
-  -- the flows that count
+  -- the flows that count after the call, which found m and leaves n
   unfoldable pub counts : Counting → Call → MemoryOf size → MemoryOf size → ℕ → ℕ → Bool
   counts every c m n u v = hasFlow n u v
-  counts direct c m n u v = recordedBy c m n u v
+  counts direct c m n u v = hasFlow n u v && not (hasFlow m u v) && ownFlow c m u v
 
-  -- x and y are both in use, and a flow leads from x to y or x is y's driver
+  -- x and y are both in use, and a flow that counts leads from x to y, or x is y's driver
   unfoldable pub joins : (ℕ → ℕ → Bool) → MemoryOf size → ℕ → ℕ → Bool
-  joins flows n x y = inUse n x && inUse n y && (flows x y || (object n y && eqb (driverOf n y) x))
+  joins flows n x y = inUse n x && inUse n y && (flows x y || objectOf n x y)
 
   -- ---- one call, which found m and leaves n
 
@@ -86,18 +92,20 @@ module _ {size : Size} where
   unfoldable pub endedBy : MemoryOf size → MemoryOf size → (ℕ → ℕ) → ℕ → ℕ
   endedBy m n ended x = cond (inUse m x && not (inUse n x)) (suc (ended x)) (ended x)
 
-  -- what joins after the call has joined for good, with the flows that count; ts are the lives named so far
+  -- the history after the call: what joins then, by the flows that count, is joined for good; ts are the lives named up to then
   unfoldable pub grown : (ℕ → ℕ → Bool) → MemoryOf size → MemoryOf size → List Life → History → History
   grown flows m n ts h =
+      let over = endedBy m n (h .ended) in
       record {
-        ended = endedBy m n (h .ended);
-        joined = λ a b. h .joined a b || (isNow (endedBy m n (h .ended)) a && isNow (endedBy m n (h .ended)) b && joins flows n (a .number) (b .number));
+        ended = over;
+        joined = λ a b. h .joined a b || (isNow over a && isNow over b && joins flows n (a .number) (b .number));
         named = ts;
       }
 
-  -- "This history begins anew whenever the state of a start is made, by a load too": what the calls of a load joined is joined in what it leaves (claim LoadHistory)
+  -- "This history begins anew whenever the state of a start is made, by a load too", with all that joins in what that leaves: the calls of a load delete nothing, so
+  -- that is what they joined (claim LoadHistory)
   unfoldable pub anew : MemoryOf size → History
-  anew n = grown (hasFlow n) n n [] (record { ended = λ x. 0; joined = λ a b. false; named = [] })
+  anew n = grown (hasFlow n) n n [] nothing
 
   -- ---- along a list
 

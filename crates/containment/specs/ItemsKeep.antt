@@ -22,7 +22,7 @@ use Rattle.containment.specs.LayoutCalls.{layout-goes, goes-leaves}
 
 -- ---- what begins a list
 
--- a load past row 3 keeps the invariant, as a start does
+-- a load past row 3 leaves the invariant, as a start does
 pub load-keeps : {size : Size} (o : Order) (m : MemoryOf size) (t : List ℕ) → pastOrder (load o m t .verdict) ≡ true → Invariant (standing o (load o m t .memory) [])
 load-keeps {size} o m t h =
     let d = load-past o m t h in

@@ -6,15 +6,15 @@ use mathlib.Core.Logic.{_⊎_, inl, inr, ⊎-elim, _↔_}
 use mathlib.Core.List.{List, [], List·Memᴰ, List·Memᴰ·not-nil}
 use Prim.Native.Nat.{ℕ, suc, _<_}
 use native.Mathlib.Omega.{arith}
-use lib.Dec.{eqb}
 use borrow.Author.Tests.{eqb-true, eq-eqb}
-use Rattle.bits.specs.AllLaws.{either, or-cases, or-l, or-r, and-i, and-l, and-r, and-false}
+use Rattle.bits.specs.AllLaws.{either, or-cases, or-l, or-r, and-i, and-false}
 use Rattle.rows.specs.Size.{Size, numbersOf}
-use Rattle.model.specs.State.{MemoryOf, inUse, object, driverOf, marked, hasFlow}
+use Rattle.model.specs.State.{MemoryOf, inUse, marked, hasFlow}
+use Rattle.model.specs.Effects.{objectOf}
 use Rattle.model.specs.StateLaws.{object-used, used-below}
 use Rattle.model.specs.EffectLaws.{Long}
-use Rattle.containment.specs.History.{Life, History, lifeOf, isNow, endedBy, joins, grown, anew}
-use Rattle.containment.specs.Reach.{Reach, at, along, down, Path, Fed, reach-used, reach-then, grows-none}
+use Rattle.containment.specs.History.{Life, History, nothing, lifeOf, isNow, endedBy, joins, grown, anew}
+use Rattle.containment.specs.Reach.{Feeds, object-own, feeds-by, Reach, at, along, down, Path, Fed, reach-here, reach-step, reach-used, reach-then, grows-none}
 use Rattle.containment.specs.Carries.{Source, Carries, Nobody, grows-carries}
 
 -- ---- chains of joins, from any set of lives
@@ -70,9 +70,12 @@ pub record Told {size : Size} (m : MemoryOf size) (h : History) : Type 0 where
   pub paths : (x y : ℕ) → Path m x y → Linked h (λ c. lifeOf h x ≡ c) (lifeOf h y)
   pub feds : (x : ℕ) → Fed m x → Linked h (Named h) (lifeOf h x)
 
--- x has a flow to y, or drives it
-abbrev Feeds : {size : Size} → MemoryOf size → ℕ → ℕ → Type 0
-Feeds n x y = (hasFlow n x y ≡ true) ⊎ ((object n y ≡ true) × (driverOf n y ≡ x))
+-- ts are the lives named so far, with those of the tasks in E
+abbrev pub Adds : History → (ℕ → Type 0) → List Life → Type 0
+Adds h E ts = (a : Life) → List·Memᴰ a ts ↔ (Named h a ⊎ ((y : ℕ) × E y × (a ≡ lifeOf h y)))
+
+pub adds-nobody : (h : History) → Adds h Nobody (h .named)
+adds-nobody h a = (λ q. inl q, λ q. ⊎-elim (λ p. p) (λ p. absurd (p .1)) q)
 
 -- ---- a call that found m and leaves n, where these flows count
 
@@ -95,17 +98,14 @@ module _ {size : Size} (flows : ℕ → ℕ → Bool) (m n : MemoryOf size) (ts 
   join-old a b e = or-l (h .joined a b) _ e
 
   -- what joins now is joined
-  join-new : (x y : ℕ) → inUse n x ≡ true → inUse n y ≡ true → (flows x y || (object n y && eqb (driverOf n y) x)) ≡ true → g .joined (lifeOf g x) (lifeOf g y) ≡ true
+  join-new : (x y : ℕ) → inUse n x ≡ true → inUse n y ≡ true → (flows x y || objectOf n x y) ≡ true → g .joined (lifeOf g x) (lifeOf g y) ≡ true
   unfolding grown isNow lifeOf joins
   join-new x y ux uy e =
       or-r (h .joined (lifeOf g x) (lifeOf g y)) _
       (and-i (and-i (eq-eqb (g .ended x) (g .ended x) refl) (eq-eqb (g .ended y) (g .ended y) refl)) (and-i (and-i ux uy) e))
 
-  -- the call names the tasks in E, whose lives ts adds to those named so far
-  module _ (E : ℕ → Type 0) (c : Carries m n E) (long : Long n) (names : (a : Life) → List·Memᴰ a ts ↔ (Named h a ⊎ ((y : ℕ) × E y × (a ≡ lifeOf h y)))) where
-    below : (x : ℕ) → inUse n x ≡ true → x < numbersOf size
-    below x = used-below n x (long .bytes-long)
-
+  -- the call names the tasks in E
+  module _ (E : ℕ → Type 0) (c : Carries m n E) (long : Long n) (names : Adds h E ts) where
     -- ---- chains are paths, if only recorded flows count
 
     module _ (recorded : (x y : ℕ) → inUse n x ≡ true → inUse n y ≡ true → flows x y ≡ true → hasFlow n x y ≡ true) (t : Traced m h) where
@@ -118,16 +118,13 @@ module _ {size : Size} (flows : ℕ → ℕ → Bool) (m n : MemoryOf size) (ts 
       unfolding grown isNow joins
       split a b j = ⊎-elim (λ e. inl e) (λ e. inr (new e)) (or-cases (h .joined a b) (isNow (g .ended) a && isNow (g .ended) b && joins flows n (a .number) (b .number)) j)
         where
-          feeds : (x y : ℕ) → inUse n x ≡ true → inUse n y ≡ true → (flows x y || (object n y && eqb (driverOf n y) x)) ≡ true → Feeds n x y
-          feeds x y ux uy e =
-              ⊎-elim (λ f. inl (recorded x y ux uy f))
-              (λ (f : (object n y && eqb (driverOf n y) x) ≡ true). inr (and-l (object n y) _ f, eqb-true (driverOf n y) x (and-r (object n y) _ f)))
-              (or-cases (flows x y) (object n y && eqb (driverOf n y) x) e)
-
           new : (isNow (g .ended) a && isNow (g .ended) b && joins flows n (a .number) (b .number)) ≡ true → Now a b
           new e =
-              let t = simp and-eq-true-iff at e in
-              (record { used = t .1 .0 .0; now = eqb-true _ _ (t .0 .0) }, record { used = t .1 .0 .1; now = eqb-true _ _ (t .0 .1) }, feeds _ _ (t .1 .0 .0) (t .1 .0 .1) (t .1 .1))
+              let t = simp and-eq-true-iff at e in (
+                record { used = t .1 .0 .0; now = eqb-true _ _ (t .0 .0) },
+                record { used = t .1 .0 .1; now = eqb-true _ _ (t .0 .1) },
+                feeds-by n (a .number) (b .number) (flows (a .number) (b .number)) (recorded (a .number) (b .number) (t .1 .0 .0) (t .1 .0 .1)) (t .1 .1),
+              )
 
       -- a known life that goes on after the call did so before
       earlier : (a : Life) → Known m h a → Living n g a → Living m h a
@@ -147,11 +144,6 @@ module _ {size : Size} (flows : ℕ → ℕ → Bool) (m n : MemoryOf size) (ts 
           (λ u. inl (subst (λ (b : Bool). a .before < cond b (suc (h .ended (a .number))) (h .ended (a .number))) (sym (and-i (v .used) (ap not u))) (omega (arith, v .now))))
           (either (inUse n (a .number)))
 
-      -- a join of the call is a step of a path
-      step : {T : ℕ → Type 0} (x y : ℕ) → inUse n y ≡ true → Feeds n x y → Reach n T x → Reach n T y
-      step x y u (inl f) r = along x y r (below y u) u f
-      step x y u (inr f) r = down x y r (below y u) (f .0) (f .1)
-
       -- the ends of an earlier chain that is more than one life are known
       ends : (a : Life) {d : Life} → Linked h (λ c. a ≡ c) d → (a ≡ d) ⊎ (Known m h a × Known m h d)
       ends a (begins d e) = inl e
@@ -162,7 +154,7 @@ module _ {size : Size} (flows : ℕ → ℕ → Bool) (m n : MemoryOf size) (ts 
       -- an earlier chain is a path still
       link : (a d : Life) → Linked h (λ c. a ≡ c) d → Living n g a → Living n g d → Path n (a .number) (d .number)
       link a d r la ld =
-          ⊎-elim (λ (e : a ≡ d). at (d .number) (below (d .number) (ld .used)) (ld .used) (ap (λ (z : Life). z .number) e))
+          ⊎-elim (λ (e : a ≡ d). reach-here long (d .number) (ld .used) (ap (λ (z : Life). z .number) e))
           (λ q. c .paths (a .number) (d .number) (la .used) (ld .used) (t .linked a d r (earlier a (q .0) la) (earlier d (q .1) ld)))
           (ends a r)
 
@@ -179,7 +171,7 @@ module _ {size : Size} (flows : ℕ → ℕ → Bool) (m n : MemoryOf size) (ts 
         goes : (a d : Life) → Cut a → (h .joined a d ≡ true) ⊎ Now a d → Cut d
         goes a d (inl r) (inl j) = inl (further a d r j)
         goes a d (inr q) (inl j) = inr (q .0, q .1, q .2, further a d (q .3) j)
-        goes a d q (inr j) = inr (d, j .1, step (a .number) (d .number) (j .1 .used) (j .2) (settle a q (j .0)), begins d refl)
+        goes a d q (inr j) = inr (d, j .1, reach-step long (a .number) (d .number) (j .1 .used) (j .2) (settle a q (j .0)), begins d refl)
 
         cut : {d : Life} → Linked g S′ d → Cut d
         cut (begins a s) = ⊎-elim (λ r. inl r) (λ q. inr (a, q .0, q .1, begins a refl)) (seed a s)
@@ -205,7 +197,7 @@ module _ {size : Size} (flows : ℕ → ℕ → Bool) (m n : MemoryOf size) (ts 
           new : ((y : ℕ) × E y × (a ≡ lifeOf h y)) → Living n g a × Fed n (a .number)
           new p =
               let w = c .naming (p .0) (p .1) in
-              subst (λ (z : Life). Living n g z × Fed n (z .number)) (sym (p .2)) (named-living (p .0) (p .1), at (p .0) (below (p .0) (w .0)) (w .0) (w .1))
+              subst (λ (z : Life). Living n g z × Fed n (z .number)) (sym (p .2)) (named-living (p .0) (p .1), reach-here long (p .0) (w .0) (w .1))
 
       pub grown-traced : Traced n g
       unfolding grown
@@ -220,7 +212,7 @@ module _ {size : Size} (flows : ℕ → ℕ → Bool) (m n : MemoryOf size) (ts 
           }
         where
           itself : (a : Life) → Living n g a → (e : Life) → a ≡ e → Living n g e × Path n (a .number) (e .number)
-          itself a la e q = subst (λ (z : Life). Living n g z × Path n (a .number) (z .number)) q (la, at (a .number) (below (a .number) (la .used)) (la .used) refl)
+          itself a la e q = subst (λ (z : Life). Living n g z × Path n (a .number) (z .number)) q (la, reach-here long (a .number) (la .used) refl)
 
     -- ---- paths are chains, if a flow that does not count is a chain already, and what was marked is joined from a named life
 
@@ -237,12 +229,12 @@ module _ {size : Size} (flows : ℕ → ℕ → Bool) (m n : MemoryOf size) (ts 
           let ux = reach-used r in
           ⊎-elim (λ j. further (lifeOf g x) (lifeOf g y) (led f r) (join-new x y ux u (or-l (flows x y) _ j)))
           (λ q. linked-then (led f r) (carried x y ux u q)) (stays x y ux u e)
-      led f (down x y r l o d) = further (lifeOf g x) (lifeOf g y) (led f r) (join-new x y (reach-used r) (object-used n y o) (or-r (flows x y) _ (and-i o (eq-eqb _ _ d))))
+      led f (down x y r l o d) = further (lifeOf g x) (lifeOf g y) (led f r) (join-new x y (reach-used r) (object-used n y o) (or-r (flows x y) _ (object-own n x y o d)))
 
       -- what was marked, or is named now
       sourced : (x : ℕ) → inUse n x ≡ true → Source m E x → Linked g (Named g) (lifeOf g x)
       unfolding grown
-      sourced x u (inl q) = subst (Linked g (Named g)) (same-life x u) (linked-more join-old (λ a p. names a .1 (inl p)) (before x (below x u) (q .0) (q .1)))
+      sourced x u (inl q) = subst (Linked g (Named g)) (same-life x u) (linked-more join-old (λ a p. names a .1 (inl p)) (before x (used-below n x (long .bytes-long) u) (q .0) (q .1)))
       sourced x u (inr e) = subst (Linked g (Named g)) (same-life x u) (begins (lifeOf h x) (names (lifeOf h x) .1 (inr (x, e, refl))))
 
       pub grown-told : Told n g
@@ -254,14 +246,10 @@ module _ {size : Size} (flows : ℕ → ℕ → Bool) (m n : MemoryOf size) (ts 
 
 -- ---- the state of a start, in which nothing is marked
 
--- before it
-none : History
-none = record { ended = λ x. 0; joined = λ a b. false; named = [] }
-
 module _ {size : Size} (m : MemoryOf size) (long : Long m) (unmarked : (x : ℕ) → marked m x ≡ true → ⊥) where
-  none-traced : Traced m none
-  unfolding none
-  none-traced =
+  nothing-traced : Traced m nothing
+  unfolding nothing
+  nothing-traced =
       record {
         known = λ a b j. absurd (false≢true j);
         known-named = λ a q. absurd (List·Memᴰ·not-nil q);
@@ -269,25 +257,21 @@ module _ {size : Size} (m : MemoryOf size) (long : Long m) (unmarked : (x : ℕ)
         fed = λ b t lb. absurd (nowhere t);
       }
     where
-      nowhere : {b : Life} → Linked none (Named none) b → ⊥
+      nowhere : {b : Life} → Linked nothing (Named nothing) b → ⊥
       nowhere (begins a q) = List·Memᴰ·not-nil q
       nowhere (further a b t j) = false≢true j
 
-      alone : (a : Life) {b : Life} → Linked none (λ c. a ≡ c) b → Living m none b → Path m (a .number) (b .number)
-      alone a (begins b e) lb = at (b .number) (used-below m (b .number) (long .bytes-long) (lb .used)) (lb .used) (ap (λ (z : Life). z .number) e)
+      alone : (a : Life) {b : Life} → Linked nothing (λ c. a ≡ c) b → Living m nothing b → Path m (a .number) (b .number)
+      alone a (begins b e) lb = reach-here long (b .number) (lb .used) (ap (λ (z : Life). z .number) e)
       alone a (further c b t j) lb = absurd (false≢true j)
-
-  nobody : (a : Life) → List·Memᴰ a [] ↔ (Named none a ⊎ ((y : ℕ) × Nobody y × (a ≡ lifeOf none y)))
-  unfolding none
-  nobody a = (λ q. inl q, λ q. ⊎-elim (λ p. p) (λ p. absurd (p .1)) q)
 
   carries : Carries m m Nobody
   carries = grows-carries m m Nobody (grows-none m) (λ x u q. absurd (unmarked x q)) (λ y e. absurd e)
 
   pub anew-traced : Traced m (anew m)
-  unfolding anew none
-  anew-traced = grown-traced (hasFlow m) m m [] none Nobody carries long nobody (λ x y ux uy f. f) none-traced
+  unfolding anew nothing
+  anew-traced = grown-traced (hasFlow m) m m [] nothing Nobody carries long (adds-nobody nothing) (λ x y ux uy f. f) nothing-traced
 
   pub anew-told : Told m (anew m)
-  unfolding anew none
-  anew-told = grown-told (hasFlow m) m m [] none Nobody carries long nobody (λ x y ux uy f. inl f) (λ x l u q. absurd (unmarked x q))
+  unfolding anew nothing
+  anew-told = grown-told (hasFlow m) m m [] nothing Nobody carries long (adds-nobody nothing) (λ x y ux uy f. inl f) (λ x l u q. absurd (unmarked x q))

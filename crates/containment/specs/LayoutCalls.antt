@@ -22,7 +22,7 @@ use Rattle.model.specs.declared.Call.the-variants.{Write, Execute, Create, Crea
 use Rattle.model.specs.Verdicts.{granted, slipped, isDone}
 use Rattle.model.specs.State as state
 use Rattle.model.specs.State.{MemoryOf, inUse, task, levelOf, driverOf, marked, hasWrite}
-use Rattle.model.specs.StateLaws.{task-used, object-used, used-below, marked-below}
+use Rattle.model.specs.StateLaws.{task-used, object-used, used-apart, used-below, marked-below}
 use Rattle.model.specs.Effects.{flow, flow-if, write-access, effect, effects}
 use Rattle.model.specs.EffectLaws.{Long, fit-long, effect-long, write-after}
 use Rattle.model.specs.Events.{OutcomeOf, unless, firstFailing, verdictOf, outcome, write, execute, create, createRoot}
@@ -140,7 +140,7 @@ module _ {size : Size} (o : Order) where
     made-lasts n free k l r d c w s ws x u = record { kind = off 0 (omega arith); level = off 1 (omega arith); read-level = off 2 (omega arith); driver = off 3 (omega arith) }
       where
         off : (f : ℕ) → f < recordSize → field (setRecord (m .bytes) n k l r d c w s) x f ≡ field (m .bytes) x f
-        off f = record-else (m .bytes) n k l r d c w s x f (λ e. true≢false (sym u ∙ ap (inUse m) e ∙ free))
+        off f = record-else (m .bytes) n k l r d c w s x f (used-apart m x n u free)
 
     -- ---- execute
 

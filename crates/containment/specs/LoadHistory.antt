@@ -2,20 +2,19 @@
 -- Assumes nothing.
 use mathlib.Core.Path.{_≡_, refl, sym, ap, _∙_}
 use mathlib.Core.Bool.{Bool, true, false, not, cond, _&&_, _||_, and-eq-true-iff}
-use mathlib.Core.Logic.{⊎-elim}
 use mathlib.Core.List.{List, [], _∷_, _++_, map}
 use Prim.Native.Nat.{ℕ, suc}
 use lib.Dec.{eqb}
-use borrow.Author.Tests.{eqb-true, eq-eqb, ltb-true, not-true}
-use Rattle.bits.specs.AllLaws.{or-cases, or-l, or-r, and-i, and-l, and-r}
-use Rattle.rows.specs.Size.{Size, numbersOf}
+use borrow.Author.Tests.{not-true}
+use Rattle.bits.specs.AllLaws.{and-i, and-l, and-r}
+use Rattle.rows.specs.Size.{Size}
 use Rattle.levels.specs.declared.Order.{Order}
 use Rattle.layout.specs.Layout as layout
 use Rattle.layout.specs.Layout.{Objects, Form, Layout}
 use Rattle.model.specs.declared.Call.{Call}
 use Rattle.model.specs.declared.Call.the-variants.{Start, Write, Execute, Create, CreateRoot}
 use Rattle.model.specs.Verdicts.{isDone}
-use Rattle.model.specs.State.{MemoryOf, inUse, object, driverOf, hasFlow}
+use Rattle.model.specs.State.{MemoryOf, inUse, hasFlow}
 use Rattle.model.specs.EffectLaws.{fit-long}
 use Rattle.model.specs.Events.{Event, outcome, write, execute, create, createRoot}
 use Rattle.model.specs.Monitor.{fitted, perform}
@@ -24,8 +23,8 @@ use Rattle.model.specs.TableLaws.{Happened, refusals, event-done}
 use Rattle.containment.specs.Lists.{asks, StandingOf, other, role, entered, next, run, leaves, begun}
 use Rattle.containment.specs.Claims.{AllGranted}
 use Rattle.containment.specs.TrailClaims.{LoadHistory}
-use Rattle.containment.specs.History.{Life, History, isNow, every, counts, joins, endedBy, grown, anew, enters, after, history, historyOf}
-use Rattle.containment.specs.Reach.{Grows}
+use Rattle.containment.specs.History.{Life, History, nothing, isNow, every, counts, joins, endedBy, grown, anew, enters, after, history, historyOf}
+use Rattle.containment.specs.Reach.{feeds-by, feeds-so, Grows, feeds-grow}
 use Rattle.containment.specs.Carries.{AllQuiet, effects-grow}
 
 -- ---- the calls of a layout
@@ -89,11 +88,11 @@ module _ {size : Size} (o : Order) (m : MemoryOf size) where
   unfolding write execute create createRoot
   laying-grows (writing e d x) h = event-grows (write o m e d x) refl (λ t. (tt, (tt, (tt, tt)))) h
   laying-grows (executing c i n l r) h =
-      event-grows (execute o m c i n l r) refl (λ t. ((ltb-true n (numbersOf size) ((simp and-eq-true-iff at (t .tests .0)) .1), not-true (inUse m n) (t .tests .1 .0)), (tt, tt))) h
+      event-grows (execute o m c i n l r) refl (λ t. (not-true (inUse m n) (t .tests .1 .0), (tt, tt))) h
   laying-grows (creating c d n k l) h =
-      event-grows (create o m c d n k l) refl (λ t. ((ltb-true n (numbersOf size) ((simp and-eq-true-iff at (t .tests .0)) .0 .1), not-true (inUse m n) (t .tests .1 .0)), (tt, (tt, tt)))) h
+      event-grows (create o m c d n k l) refl (λ t. (not-true (inUse m n) (t .tests .1 .0), (tt, (tt, tt)))) h
   laying-grows (rooting c d n l) h =
-      event-grows (createRoot o m c d n l) refl (λ t. ((ltb-true n (numbersOf size) ((simp and-eq-true-iff at (t .tests .0)) .1), not-true (inUse m n) (t .tests .1 .0)), (tt, (tt, tt)))) h
+      event-grows (createRoot o m c d n l) refl (λ t. (not-true (inUse m n) (t .tests .1 .0), (tt, (tt, tt)))) h
 
 -- ---- a history in which no life is over, none is named, and what joins now is joined
 
@@ -107,12 +106,7 @@ joins-grow : {size : Size} {m n : MemoryOf size} → Grows m n → (x y : ℕ) �
 unfolding joins
 joins-grow {m = m} {n = n} g x y h =
     let t = simp and-eq-true-iff at h in
-    and-i (and-i (g .used x (t .0 .0)) (g .used y (t .0 .1)))
-    (⊎-elim (λ f. or-l (hasFlow n x y) _ (g .flows x y f))
-    (λ (f : (object m y && eqb (driverOf m y) x) ≡ true).
-    let k = g .objects y (and-l (object m y) _ f) in
-    or-r (hasFlow n x y) _ (and-i (k .0) (eq-eqb _ _ (k .1 ∙ eqb-true (driverOf m y) x (and-r (object m y) _ f)))))
-    (or-cases (hasFlow m x y) (object m y && eqb (driverOf m y) x) (t .1)))
+    and-i (and-i (g .used x (t .0 .0)) (g .used y (t .0 .1))) (feeds-so n x y (feeds-grow g x y (feeds-by m x y (hasFlow m x y) (λ f. f) (t .1))))
 
 -- what stands already adds nothing
 absorbed : (a b : Bool) → (a ≡ true → b ≡ true) → (a || b) ≡ b
@@ -145,7 +139,7 @@ module _ {size : Size} (m n : MemoryOf size) (h : History) (p : Plain m h) (g : 
 
 -- so is one that begins
 anew-plain : {size : Size} (n : MemoryOf size) → Plain n (anew n)
-unfolding anew grown isNow endedBy
+unfolding anew nothing grown isNow endedBy
 anew-plain n =
     record {
       ended = λ x. none x (inUse n x);

@@ -1,7 +1,7 @@
 -- What a load gives and leaves: the claims about loads, proved.
 -- Assumes nothing.
 use mathlib.Core.Path.{_≡_, refl, sym, ap, _∙_}
-use mathlib.Core.Bool.{true, false, _||_, false≢true}
+use mathlib.Core.Bool.{true, _||_, false≢true}
 use mathlib.Core.Logic.{inl, inr}
 use mathlib.Core.List.{List, [], _∷_, map}
 use Prim.Native.Nat.{ℕ, _≤_}
@@ -22,7 +22,7 @@ use Rattle.model.specs.Events.{OutcomeOf}
 use Rattle.model.specs.Monitor.{refusal, refusedUnless, start, started, perform}
 use Rattle.model.specs.Load.{layoutCalls, inTurn, laidOut, load, pastOrder}
 use Rattle.model.specs.LoadLaws.{laid-gives, laid-tells, laid-done, laid-refused, laid-sound, load-past, load-kept}
-use Rattle.containment.specs.Lists.{asks, loads, leaves, next, run, begun}
+use Rattle.containment.specs.Lists.{asks, leaves, next, run, begun}
 use Rattle.containment.specs.Claims.{layoutGives, LayoutGives, LoadGives, LoadsSound, AsCalls, AllGranted, FirstRefused, LoadIsList, LoadTells, LoadRows, RefusedLoad, UntouchedByLoad}
 use Rattle.containment.specs.Invariant.{standing, Invariant}
 use Rattle.containment.specs.CallsKeep.{started-keeps}

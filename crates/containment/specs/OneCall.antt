@@ -24,23 +24,22 @@ use Rattle.model.specs.EffectLaws.{Long, fit-long, effect-long, effects-long, i
 use Rattle.model.specs.Events.{Event, OutcomeOf, outcome, read, write, execute, create, createRoot, move, delete, callTask, invoke, pass, post, find, mark, fed, step, feedsUnmarked}
 use Rattle.model.specs.Spread.{spread}
 use Rattle.model.specs.Monitor.{fitted, perform}
-use Rattle.model.specs.MarkLaws.{MoreMarks, kept-marked, kept-inUse, kept-object, kept-driver, kept-flow}
+use Rattle.model.specs.MarkLaws.{MoreMarks, kept-inUse}
 use Rattle.model.specs.SpreadLaws.{spread-more}
 use Rattle.model.specs.SoundLaws.{marked-used}
 use Rattle.model.specs.TableLaws.{Happened, refusals, event-done, fitted-done}
 use Rattle.containment.specs.Lists.{Role, starting, marking, other, role}
 use Rattle.containment.specs.Claims.{Exact}
-use Rattle.containment.specs.Changes.{is-number}
+use Rattle.containment.specs.Changes.{equal-or-not}
 use Rattle.containment.specs.CallsKeep.{NoStart}
 use Rattle.containment.specs.SpreadProof.{spread-exact}
-use Rattle.containment.specs.Reach.{Reach, at, along, down, chain-fed, Grows, reach-grows}
-use Rattle.containment.specs.Bypass.{Bypasses, not-gone, past-path, past-fed, delete-bypasses}
-use Rattle.containment.specs.Carries.{Source, Origin, Carries, Nobody, same-origin, grows-carries, effects-grow, quiet-carries}
+use Rattle.containment.specs.Reach.{own-object, Reach, at, along, down, chain-fed, Grows, reach-grows}
+use Rattle.containment.specs.Bypass.{Bypasses, not-gone, past-path, past-fed, bypassed, bypassed-long, delete-bypasses}
+use Rattle.containment.specs.Carries.{Source, Origin, Carries, Nobody, same-origin, grows-carries, more-grows, effects-grow, quiet-carries}
 
--- an object of the driver d
-own-object : {size : Size} (m : MemoryOf size) (d x : ℕ) → objectOf m d x ≡ true → (object m x ≡ true) × (driverOf m x ≡ d)
-unfolding objectOf
-own-object m d x h = let t = simp and-eq-true-iff at h in (t .0, eqb-true (driverOf m x) d (t .1))
+-- an object of what is reached is reached, also if it was its object before
+own-reached : {size : Size} {m n : MemoryOf size} {S : ℕ → Type 0} → Grows m n → (d x : ℕ) → x < numbersOf size → objectOf m d x ≡ true → Reach n S d → Reach n S x
+own-reached {m = m} g d x l h r = let t = own-object m d x h in let k = g .objects x (t .0) in down d x r l (k .0) (k .1 ∙ t .1)
 
 -- ---- each kind of call
 
@@ -48,7 +47,7 @@ module _ {size : Size} (m : MemoryOf size) (long : Long m) where
   -- a new task has no mark
   execute-carries : (n l r : ℕ) (b : Bool) (i : ℕ) → n < numbersOf size → inUse m n ≡ false → Carries m (effects (make-task n l r ∷ flow-if b i n ∷ []) m) Nobody
   unfolding effects effect inUse marked
-  execute-carries n l r b i ln free = quiet-carries m long (make-task n l r ∷ flow-if b i n ∷ []) ((ln, free), (tt, tt)) (λ x u k. ⊎-elim (new x k) (old x u k) (is-number x n))
+  execute-carries n l r b i ln free = quiet-carries m long (make-task n l r ∷ flow-if b i n ∷ []) (free, (tt, tt)) (λ x u k. ⊎-elim (new x k) (old x u k) (equal-or-not x n))
     where
       made : MemoryOf size
       made = effect (make-task n l r) m
@@ -63,7 +62,7 @@ module _ {size : Size} (m : MemoryOf size) (long : Long m) where
   created-carries : (c d n : ℕ) (q : Place) (l : ℕ) → task m d ≡ true → n < numbersOf size → inUse m n ≡ false
       → Carries m (effects (make-object n l d q (marked m d) ∷ flow-if (marked m d) c n ∷ flow-if (marked m d) c d ∷ []) m) Nobody
   unfolding effects effect inUse object isObject marked
-  created-carries c d n q l td ln free = grows-carries m left Nobody grow (λ x u k. ⊎-elim (new x u k) (old x u k) (is-number x n)) (λ y e. absurd e)
+  created-carries c d n q l td ln free = grows-carries m left Nobody grow (λ x u k. ⊎-elim (new x u k) (old x u k) (equal-or-not x n)) (λ y e. absurd e)
     where
       made : Effect
       made = make-object n l d q (marked m d)
@@ -75,7 +74,7 @@ module _ {size : Size} (m : MemoryOf size) (long : Long m) where
       left = effects es m
 
       grow : Grows m left
-      grow = effects-grow m long es ((ln, free), (tt, (tt, tt)))
+      grow = effects-grow m long es (free, (tt, (tt, tt)))
 
       below : (x : ℕ) → inUse left x ≡ true → x < numbersOf size
       below x = used-below left x (effects-long es long .bytes-long)
@@ -120,14 +119,11 @@ module _ {size : Size} (m : MemoryOf size) (long : Long m) where
       grow : Grows m left
       grow = effects-grow m long (mark-outside e ∷ []) (te, tt)
 
-      own : (x : ℕ) → x < numbersOf size → objectOf m e x ≡ true → Reach left (Source m (λ y. y ≡ e)) x
-      own x lx h = let t = own-object m e x h in down e x (at e le (grow .used e ue) (inr refl)) lx (grow .objects x (t .0) .0) (grow .objects x (t .0) .1 ∙ t .1)
-
       born : Origin m left (λ y. y ≡ e)
       born x u k =
           let lx = used-below left x (effect-long (mark-outside e) long .bytes-long) u in
           ⊎-elim (λ h. at x lx u (inl (sym (inUse-after x (mark-outside e) m long le) ∙ u, h)))
-          (λ h. ⊎-elim (λ d. at x lx u (inr (eqb-true x e d))) (own x lx) (or-cases (eqb x e) (objectOf m e x) h))
+          (λ h. ⊎-elim (λ d. at x lx u (inr (eqb-true x e d))) (λ d. own-reached grow e x lx d (at e le (grow .used e ue) (inr refl))) (or-cases (eqb x e) (objectOf m e x) h))
           (or-cases (marked m x) (eqb x e || objectOf m e x) (sym (outside-marked x m long lx e le) ∙ k))
 
   -- a marked thing y feeds x, and a task's objects are its own
@@ -147,36 +143,33 @@ module _ {size : Size} (m : MemoryOf size) (long : Long m) where
       itself : Reach left (Source m Nobody) x
       itself = along y x (at y (below y uy) (grow .used y uy) (inl (uy, ky))) (below x ux) (grow .used x ux) (grow .flows y x f)
 
-      own : (z : ℕ) → z < numbersOf size → (task m x && objectOf m x z) ≡ true → Reach left (Source m Nobody) z
-      own z lz h = let t = own-object m x z (and-r (task m x) (objectOf m x z) h) in down x z itself lz (grow .objects z (t .0) .0) (grow .objects z (t .0) .1 ∙ t .1)
-
       born : Origin m left Nobody
       born z u k =
           let uz = sym (inUse-after z (mark-thing x) m long (below x ux)) ∙ u in
           ⊎-elim (λ h. at z (below z uz) u (inl (uz, h)))
-          (λ h. ⊎-elim (λ e. subst (Reach left (Source m Nobody)) (sym (eqb-true z x e)) itself) (own z (below z uz)) (or-cases (eqb z x) (task m x && objectOf m x z) h))
+          (λ h. ⊎-elim (λ e. subst (Reach left (Source m Nobody)) (sym (eqb-true z x e)) itself) (λ e. own-reached grow x z (below z uz) (and-r (task m x) (objectOf m x z) e) itself) (or-cases (eqb z x) (task m x && objectOf m x z) h))
           (or-cases (marked m z) (eqb z x || (task m x && objectOf m x z)) (sym (thing-marked z m long (below z uz) x) ∙ k))
 
   -- the object x goes, bridged
   delete-carries : (x : ℕ) (b : Bool) (e d : ℕ) → object m x ≡ true → ((y : ℕ) → object m y ≡ true → task m (driverOf m y) ≡ true)
       → (marked m x ≡ true → (q : ℕ) → fedBy m x q ≡ true → marked m q ≡ true) → Carries m (effects (bridge x ∷ clear x ∷ flow-if b e d ∷ []) m) Nobody
   unfolding effects effect inUse object isObject marked
-  delete-carries x b e d o drivers sixteen =
+  delete-carries x b e d o drivers feeding =
       record {
         paths = λ w y uw uy r. reach-grows (λ z. w ≡ z) (λ z. w ≡ z) grow (λ z u e. e) (past-path m cleared x by w y uw uy r);
-        feds = λ y uy r. reach-grows (λ z. marked cleared z ≡ true) (λ z. marked left z ≡ true) grow (grow .marks) (past-fed m cleared x by sixteen y uy r);
+        feds = λ y uy r. reach-grows (λ z. marked cleared z ≡ true) (λ z. marked left z ≡ true) grow (grow .marks) (past-fed m cleared x by feeding y uy r);
         origin = same-origin m left Nobody (effect-long (flow-if b e d) long′) (λ y u k. let n = not-gone m cleared x by y u in (sym (by .used y n) ∙ u, sym (by .marks y n) ∙ k));
         naming = λ y e. absurd e;
       }
     where
       cleared : MemoryOf size
-      cleared = effect (clear x) (effect (bridge x) m)
+      cleared = bypassed m x
 
       left : MemoryOf size
       left = effect (flow-if b e d) cleared
 
       long′ : Long cleared
-      long′ = effect-long (clear x) (effect-long (bridge x) long)
+      long′ = bypassed-long long x
 
       by : Bypasses m cleared x
       by = delete-bypasses m long x o drivers
@@ -195,13 +188,7 @@ module _ {size : Size} (m : MemoryOf size) (long : Long m) where
       more = spread-more m
 
       grow : Grows m left
-      grow =
-          record {
-            used = λ x u. kept-inUse more x ∙ u;
-            objects = λ x u. (kept-object more x ∙ u, kept-driver more x);
-            flows = λ x y f. kept-flow more x y ∙ f;
-            marks = λ x u k. kept-marked more x k;
-          }
+      grow = more-grows more
 
       exact : Exact m left
       exact = subst (λ (out : OutcomeOf size). Exact m (out .memory)) (fitted-done o m (spread m) (ap isDone h) .inner) (spread-exact size o m h)
@@ -219,9 +206,9 @@ unfolding object task isObject isTask
 driver-tasks {size} o m ok y h = eq-eqb _ _ (object-facts size o (m .bytes) ok y (eqb-true _ _ h) .driven)
 
 -- row 16: all that a marked x feeds is marked
-sixteen-marks : {size : Size} (m : MemoryOf size) → Long m → (x : ℕ) → not (feedsUnmarked m x) ≡ true → marked m x ≡ true → (q : ℕ) → fedBy m x q ≡ true → marked m q ≡ true
+feeds-marked : {size : Size} (m : MemoryOf size) → Long m → (x : ℕ) → not (feedsUnmarked m x) ≡ true → marked m x ≡ true → (q : ℕ) → fedBy m x q ≡ true → marked m q ≡ true
 unfolding feedsUnmarked fedBy
-sixteen-marks {size} m long x h k q f = ⊎-elim (λ e. e) (λ e. absurd (true≢false (sym (and-i k (some e)) ∙ not-true _ h))) (either (marked m q))
+feeds-marked {size} m long x h k q f = ⊎-elim (λ e. e) (λ e. absurd (true≢false (sym (and-i k (some e)) ∙ not-true _ h))) (either (marked m q))
   where
     some : marked m q ≡ false → anyB (numbersOf size) (λ y. fedBy m x y && not (marked m y)) ≡ true
     some e = any-i (numbersOf size) (λ y. fedBy m x y && not (marked m y)) q (used-below m q (long .bytes-long) ((simp and-eq-true-iff at f) .0 .0)) (and-i f (ap not e))
@@ -271,7 +258,7 @@ module _ {size : Size} (o : Order) (m : MemoryOf size) where
       event-carries (delete o m e d x k) Nobody refl
       (λ t l.
       let a = simp and-eq-true-iff at (t .tests .0) in
-      delete-carries m l x (marked m d) e d (a .0 .1) (driver-tasks o m (t .sound-bytes)) (sixteen-marks m l x (t .tests .1 .1 .1 .1 .1 .1 .0))) h
+      delete-carries m l x (marked m d) e d (a .0 .1) (driver-tasks o m (t .sound-bytes)) (feeds-marked m l x (t .tests .1 .1 .1 .1 .1 .1 .0))) h
   call-carries (CallTask a b) n h = event-carries (callTask o m a b) Nobody refl (λ t l. quiet-carries m l (callTask o m a b .effects) (tt, (tt, tt)) (λ x u k. (u, k))) h
   call-carries (Invoke a b) n h = event-carries (invoke o m a b) Nobody refl (λ t l. quiet-carries m l (invoke o m a b .effects) (tt, (tt, tt)) (λ x u k. (u, k))) h
   call-carries (Pass z x y) n h = event-carries (pass o m z x y) Nobody refl (λ t l. quiet-carries m l (pass o m z x y .effects) (tt, tt) (λ x u k. (u, k))) h

@@ -18,7 +18,7 @@ use Rattle.levels.specs.OrderLaws.{IsOrder}
 use Rattle.records.specs.Records as records
 use Rattle.records.specs.Records.{field, Place}
 use Rattle.model.specs.State.{MemoryOf, inUse, task, object, levelOf, driverOf, marked, hasFlow}
-use Rattle.model.specs.StateLaws.{task-used, object-used, object-task, outside-mark, used-below}
+use Rattle.model.specs.StateLaws.{task-used, object-used, object-task, outside-mark, used-apart, used-below}
 use Rattle.model.specs.Effects.{Effect, flow, flow-if, read-access, write-access, make-task, make-object, move-to, bridge, clear, mark-outside, mark-thing, objectOf, feeder, fedBy, withWords, effect, effects}
 use Rattle.model.specs.MarkLaws.{where-words, where-field, where-kept}
 use Rattle.model.specs.EffectLaws.{Long, fit-long, long-fits, effect-long, effect-bytes, effect-words, byte-after, inUse-after, object-after, level-after, driver-after, marks-after, marked-after, outside-marks, outside-marked, thing-marked}
@@ -26,6 +26,7 @@ use Rattle.containment.specs.Lists.{StandingOf}
 use Rattle.containment.specs.Claims.{Covered}
 use Rattle.containment.specs.Tables.{Table, flows, reads, writes, row, has, has-added, has-bridged, has-clear}
 use Rattle.containment.specs.Invariant.{standing, Ends, Bounded, MayFlow, May, may-join, Limits, joins, covered-below, ends-trans}
+use Rattle.containment.specs.Reach.{Feeds, feeds-by}
 use Rattle.containment.specs.Follows.{Same, Follows, same-task, covered-follows}
 use Rattle.containment.specs.Changes.{words-limits, one-follows, one-limits, marks-follow, marks-limits}
 
@@ -94,31 +95,27 @@ module _ {size : Size} (s : StandingOf size) (ok : IsOrder (s .order)) (k : Limi
   -- ---- what feeds x, and its driver, goes on to what x feeds: through x, so within the limits
 
   bridge-keeps : (x : ℕ) → inUse m x ≡ true → Limits (after s (bridge x))
-  unfolding effect feeder fedBy objectOf hasFlow
+  unfolding effect feeder fedBy hasFlow
   bridge-keeps x a =
       words-limits s _ k (effect-words (bridge x) m)
       (λ t u v lu lv h. ⊎-elim (λ e. inl e) (λ (e : (t ≡ flows) × (feeder m x u ≡ true) × (fedBy m x v ≡ true)). inr (rw (e .0) (through u v lu lv (e .1) (e .2))))
       (has-bridged m long u v lu lv x t h))
     where
-      into : (u : ℕ) → u < numbersOf size → (has flows m u x || (object m x && eqb (driverOf m x) u)) ≡ true → Ends s u x
-      into u lu h =
-          ⊎-elim (λ f. k .recorded flows u x lu (below x a) f .2)
-          (λ (f : (object m x && eqb (driverOf m x) u) ≡ true).
-          let d = simp and-eq-true-iff at f in
-          inl (rw (sym (eqb-true (driverOf m x) u (d .1))) (k .bounded x (below x a) .driver-above (d .0))))
-          (or-cases (has flows m u x) (object m x && eqb (driverOf m x) u) h)
+      into : (u : ℕ) → u < numbersOf size → Feeds m u x → Ends s u x
+      into u lu (inl f) = k .recorded flows u x lu (below x a) f .2
+      into u lu (inr d) = inl (rw (sym (d .1)) (k .bounded x (below x a) .driver-above (d .0)))
 
       through : (u v : ℕ) → u < numbersOf size → v < numbersOf size → feeder m x u ≡ true → fedBy m x v ≡ true → MayFlow s u v
       through u v lu lv p q =
           let d = simp and-eq-true-iff at p in
           let e = simp and-eq-true-iff at q in
-          (d .0 .0, e .0 .0, ends-trans s ok u x v (into u lu (d .1)) (k .recorded flows x v (below x a) lv (e .1) .2))
+          (d .0 .0, e .0 .0, ends-trans s ok u x v (into u lu (feeds-by m u x (has flows m u x) (λ f. f) (d .1))) (k .recorded flows x v (below x a) lv (e .1) .2))
 
   -- ---- a free number becomes a task or an object
 
   module _ (e : Effect) (n : ℕ) (free : inUse m n ≡ false) (off : (x f : ℕ) → f < 8 → (x ≡ n → ⊥) → field (effect e m .bytes) x f ≡ field (m .bytes) x f) where
     used-off : (x : ℕ) → inUse m x ≡ true → x ≡ n → ⊥
-    used-off x u d = true≢false (sym u ∙ ap (inUse m) d ∙ free)
+    used-off x u d = used-apart m x n u free d
 
     free-task : task m n ≡ false
     free-task = not-so (task m n) (λ h. true≢false (sym (task-used m n h) ∙ free))

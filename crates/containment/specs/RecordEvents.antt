@@ -1,7 +1,7 @@
 -- The tests of the events that make, move and clear things allow their effects.
 -- Assumes nothing.
-use mathlib.Core.Path.{_≡_, refl, sym, ap, _∙_}
-use mathlib.Core.Bool.{true, not, and-eq-true-iff, true≢false}
+use mathlib.Core.Path.{_≡_, refl, _∙_}
+use mathlib.Core.Bool.{true, not, and-eq-true-iff}
 use mathlib.Core.Logic.{inl}
 use mathlib.Core.List.{[], _∷_}
 use Prim.Native.Nat.{ℕ}
@@ -13,7 +13,7 @@ use Rattle.levels.specs.Order.{atOrBelow}
 use Rattle.levels.specs.OrderLaws.{IsOrder}
 use Rattle.records.specs.Records.{Place, root, within}
 use Rattle.model.specs.State.{MemoryOf, inUse, task, object, levelOf, marked}
-use Rattle.model.specs.StateLaws.{task-used, object-used, used-below}
+use Rattle.model.specs.StateLaws.{task-used, object-used, used-apart, used-below}
 use Rattle.model.specs.Effects.{Effect, flow-if, make-task, make-object, move-to, bridge, clear, effect}
 use Rattle.model.specs.EffectLaws.{Long, fit-long, inUse-after, level-after}
 use Rattle.model.specs.Events.{execute, create, createRoot, move, delete}
@@ -54,7 +54,7 @@ module _ {size : Size} (s : StandingOf size) (ok : IsOrder (s .order)) (k : Limi
       let free = not-true (inUse m n) (h .1 .0) in
       let ui = object-used m i (t .0 .1) in
       let e = make-task n l r in
-      let ne = ne-eqb i n (λ (d : i ≡ n). true≢false (sym ui ∙ ap (inUse m) d ∙ free)) in (
+      let ne = ne-eqb i n (used-apart m i n ui free) in (
         (ln, free),
         (
           λ p. (

@@ -1,4 +1,4 @@
--- The claims of document 02's deletions: the trail is exact, and directly so, and a load's history is that of its calls; the proofs stand in Trails.antt, Direct.antt and LoadHistory.antt.
+-- The claims of document 02's deletions: the trail is exact, also without the flows of bridging, and a load's history is that of its calls; the proofs stand in Trails.antt, Direct.antt and LoadHistory.antt.
 -- Assumes nothing.
 use mathlib.Core.Path.{_≡_}
 use mathlib.Core.Bool.{true}
@@ -20,13 +20,14 @@ use Rattle.containment.specs.History.{Life, History, lifeOf, Trail, ever
 abbrev pub Trailed : {size : Size} → StandingOf size → History → Type 0
 Trailed s h = (x : ℕ) → inUse (s .memory) x ≡ true → (marked (s .memory) x ≡ true) ↔ Trail h (lifeOf h x)
 
--- after every list that ends in a granted spread; here its calls may be lent any orders. Bridging too little breaks this
+-- after every list that ends in a granted spread; here its calls may be lent any orders. Too little bridging would break this claim, and bridging that leads where
+-- nothing led before the next one: together they hold the deletions
 abbrev pub TrailExact : Type 0
 TrailExact = (size : Size) (b : Item) (m : MemoryOf size) (is : List Item) → Begins m b
     → (o : Order) → let s = run is (begun b m) in perform o (s .memory) Spread .verdict ≡ granted
     → Trailed (next (asks o Spread) s) (after every (asks o Spread) s (historyOf every b m is))
 
--- and, for the lists of demand 3, no chain needs a flow that bridging recorded: bridging leads no mark where none led before
+-- and, for the lists of demand 3, no chain needs a flow that bridging recorded
 abbrev pub TrailDirect : Type 0
 TrailDirect = (size : Size) (b : Item) (m : MemoryOf size) (is : List Item) → Reached b m is
     → (o : Order) → let s = run is (begun b m) in perform o (s .memory) Spread .verdict ≡ granted
@@ -38,7 +39,7 @@ pub record SameHistory (g h : History) : Type 0 where
   pub same-joined : (a b : Life) → g .joined a b ≡ h .joined a b
   pub same-named : g .named ≡ h .named
 
--- the history that a granted load begins is that of a start and then its calls, every flow counted
+-- the history that a granted load, which is such calls, begins is that of a start and then its calls, every flow counted
 abbrev pub LoadHistory : Type 0
 LoadHistory = (size : Size) (o : Order) (m : MemoryOf size) (t : List ℕ) (a : AsCalls o m t)
     → SameHistory (anew (load o m t .memory)) (historyOf every (asks o Start) m (map (asks o) (layoutCalls (a .layout))))

@@ -2,8 +2,8 @@
 -- Assumes nothing.
 use mathlib.Core.Path.{_≡_, refl, sym, ap, subst, _∙_}
 use mathlib.Core.Bool.{true, true≢false}
-use mathlib.Core.Logic.{_⊎_, inl, inr, ⊎-elim, _↔_}
-use mathlib.Core.List.{List, [], _∷_, List·Memᴰ, List·Memᴰ·head, List·Memᴰ·tail, List·Memᴰ·cases-cons}
+use mathlib.Core.Logic.{_⊎_, inl, inr, ⊎-elim}
+use mathlib.Core.List.{List, [], _∷_, List·Memᴰ·head, List·Memᴰ·tail, List·Memᴰ·cases-cons}
 use Prim.Native.Nat.{ℕ}
 use Rattle.bits.specs.AllLaws.{either}
 use Rattle.rows.specs.Size.{Size}
@@ -29,9 +29,9 @@ use Rattle.containment.specs.LayoutCalls.{unmarked}
 use Rattle.containment.specs.ItemsKeep.{load-keeps, begun-keeps}
 use Rattle.containment.specs.History.{Life, History, lifeOf, Trail, from, onward, Counting, every, counts, grown, anew, enters, after, history, historyOf}
 use Rattle.containment.specs.Reach.{at, along, down, Path, Fed}
-use Rattle.containment.specs.Carries.{Carries}
+use Rattle.containment.specs.Carries.{Carries, Nobody}
 use Rattle.containment.specs.OneCall.{Names, call-carries}
-use Rattle.containment.specs.Joins.{Linked, begins, further, Named, Traced, Told, grown-traced, grown-told, anew-traced, anew-told}
+use Rattle.containment.specs.Joins.{Linked, begins, further, Named, Traced, Told, Adds, adds-nobody, grown-traced, grown-told, anew-traced, anew-told}
 
 -- chains are paths now, and paths are chains
 abbrev Kept : {size : Size} → MemoryOf size → History → Type 0
@@ -76,8 +76,7 @@ start-or-not (Step x) = inr tt
 start-or-not Spread = inr tt
 
 module _ {size : Size} (k : Counting) (c : Call) (m n : MemoryOf size) (h : History) (long : Long n) (t : Counted k c m n) (kept : Kept m h) where
-  -- ts are the lives named so far, with those of E
-  grown-kept : (E : ℕ → Type 0) (ts : List Life) → Carries m n E → ((a : Life) → List·Memᴰ a ts ↔ (Named h a ⊎ ((y : ℕ) × E y × (a ≡ lifeOf h y)))) → Kept n (grown (counts k c m n) m n ts h)
+  grown-kept : (E : ℕ → Type 0) (ts : List Life) → Carries m n E → Adds h E ts → Kept n (grown (counts k c m n) m n ts h)
   grown-kept E ts r names = (
     grown-traced (counts k c m n) m n ts h E r long names (t .recorded) (kept .0),
     grown-told (counts k c m n) m n ts h E r long names
@@ -92,7 +91,7 @@ module _ {size : Size} (k : Counting) (c : Call) (m n : MemoryOf size) (h : Hist
   enters-kept (marking e) w r =
       grown-kept (λ y. y ≡ e) (lifeOf h e ∷ h .named) r
       (λ a. (λ q. ⊎-elim (λ d. inr (e, refl, d)) (λ p. inl p) (List·Memᴰ·cases-cons q), λ q. ⊎-elim (λ p. List·Memᴰ·tail p) (λ p. List·Memᴰ·head (p .2 ∙ ap (lifeOf h) (p .1))) q))
-  enters-kept other w r = grown-kept (λ y. ⊥) (h .named) r (λ a. (λ q. inl q, λ q. ⊎-elim (λ p. p) (λ p. absurd (p .1)) q))
+  enters-kept other w r = grown-kept Nobody (h .named) r (adds-nobody h)
 
 -- every call that is done
 call-kept : {size : Size} (k : Counting) (o : Order) (m : MemoryOf size) (c : Call) (h : History) → isDone (perform o m c .verdict) ≡ true
@@ -123,7 +122,7 @@ AllCounted k [] s = Unit {0}
 AllCounted k (i ∷ is) s = ItemCounted k i s × AllCounted k is (next i s)
 
 -- whatever its role, a call leaves its memory
-entered-memory : {size : Size} (r : Role) (o : Order) (n : MemoryOf size) (s : StandingOf size) → entered r o n s .memory ≡ n
+pub entered-memory : {size : Size} (r : Role) (o : Order) (n : MemoryOf size) (s : StandingOf size) → entered r o n s .memory ≡ n
 unfolding entered
 entered-memory starting o n s = refl
 entered-memory (marking e) o n s = refl

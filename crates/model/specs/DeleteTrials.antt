@@ -14,7 +14,7 @@ use Rattle.model.specs.Events.{feedsUnmarked, delete, fed}
 use Rattle.model.specs.declared.Call.the-variants.{Delete}
 use Rattle.model.specs.Trials.{Pair, _↣_, Trial, Q, fresh, trial}
 
--- ---- a file and what is about it, in states that no list leaves: an access without its flow, a marked driver's unmarked file
+-- ---- a scratch file and what is around it. No list leaves these states: accesses stand without flows, a marked driver has an unmarked file
 
 -- the core, tasks 1, 2 and 5; the folder 3, and in it the scratch file 4, both driven by the core. The core is at level 3, all else at 0. The core, task 2
 -- and the file have the marks given; 6 is free
@@ -70,18 +70,19 @@ Feeding =
     -- the driver is marked and the file is not
     × (feedsUnmarked (shelf 3 0 0 (4 ↣ 2 ∷ [])) 4 ≡ false)
 
--- ---- the trail past the file: 1 fed it and it fed 2; it is deleted, and then 1 is marked
+-- ---- the trail past the file: 1 fed it and it fed 2; it is deleted
 
--- something marked feeds x
-unfoldable pub reached : ℕ → Bool
-reached x = fed Q (effect (mark-outside 1) (deletedBy 1 (shelf 0 0 0 (1 ↣ 4 ∷ 4 ↣ 2 ∷ [])))) x
+-- if then the task t is marked, something marked feeds x
+unfoldable pub leads : ℕ → ℕ → Bool
+leads t x = fed Q (effect (mark-outside t) (deletedBy 1 (shelf 0 0 0 (1 ↣ 4 ∷ 4 ↣ 2 ∷ [])))) x
 
 abbrev pub TrailKept : Type 0
 TrailKept =
-    -- 2, as a chain led there
-    (reached 2 ≡ true)
-    -- and not 5, as none did
-    × (reached 5 ≡ false)
+    -- from 1 to 2, as a chain led there
+    (leads 1 2 ≡ true)
+    -- but from 1 to no other, and from no other to 2
+    × (leads 1 5 ≡ false)
+    × (leads 5 2 ≡ false)
 
 -- ---- whole calls
 

@@ -1,7 +1,7 @@
 -- What the kind and the marks of a number tell.
 -- Assumes nothing.
-use mathlib.Core.Path.{_≡_}
-use mathlib.Core.Bool.{true, false, false≢true}
+use mathlib.Core.Path.{_≡_, sym, ap, _∙_}
+use mathlib.Core.Bool.{true, false, true≢false, false≢true}
 use Prim.Native.Nat.{ℕ, _≤_, _<_}
 use native.Mathlib.Nat.{lt-of-not-le}
 use lib.ListN.{length}
@@ -23,6 +23,10 @@ module _ {size : Size} (m : MemoryOf size) (x : ℕ) where
   pub object-task : object m x ≡ true → task m x ≡ false
   unfolding object isObject task isTask
   object-task h = rw (eqb-true (kind (m .bytes) x) 2 h)
+
+  -- what is in use is not what is free
+  pub used-apart : (n : ℕ) → inUse m x ≡ true → inUse m n ≡ false → x ≡ n → ⊥
+  used-apart n u free e = true≢false (sym u ∙ ap (inUse m) e ∙ free)
 
   -- what is marked from outside is marked
   pub outside-mark : marks (m .bytes) x ≡ 3 → marked m x ≡ true

@@ -32,6 +32,7 @@ use Rattle.script.specs.declared.Line.{Line}
 use Rattle.script.specs.declared.Line.the-variants.{Bad, Starts, Asks}
 use Rattle.containment.specs.Lists.{Item, asks, Standing, Role, starting, marking, other, role, entered, next, run, Admitted, Admissible, leaves, begun, by-start}
 use Rattle.containment.specs.Claims.{Contained}
+use Rattle.containment.specs.Trails.{entered-memory}
 use Rattle.containment.specs.Proved.{containment, spread-granted}
 use Rattle.trail.specs.Lines.{answered, asked, startedWith, doneBy, lineDone}
 use Rattle.trail.specs.Marked.{isMarked, markedLine}
@@ -82,12 +83,6 @@ unfolding next
 refused-next o c s h = rw (h, refused-keeps o (s .memory) c h)
 
 -- ---- what a call leaves of the memory and of the order
-
-entered-memory : (r : Role) (o : Order) (m : Memory) (s : Standing) → entered r o m s .memory ≡ m
-unfolding entered
-entered-memory starting o m s = refl
-entered-memory (marking e) o m s = refl
-entered-memory other o m s = refl
 
 entered-order : (r : Role) (m : Memory) (s : Standing) → entered r (s .order) m s .order ≡ s .order
 unfolding entered

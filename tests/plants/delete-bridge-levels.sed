@@ -1,0 +1,1 @@
+/^static void bridge(struct state \*s, unsigned object)$/,/^}/s/^        flows\[0\] |= /        for (unsigned q = 0; q < THINGS; q++)\n            if (!used(s, q) || !below(s, level(s, q), level(s, p)))\n                things.words[q \/ 64] \&= ~(UINT64_C(1) << (q % 64));\n&/
