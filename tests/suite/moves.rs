@@ -1,7 +1,7 @@
 //! Moves towards what lies inside the object: chains of every length, circles that no
 //! list of calls leaves, and what else a move can be refused for.
 
-use tupehiwo::ffi::{Order, code};
+use tupehiwo::ffi::code;
 use tupehiwo_tests::causes::{MOVED, NESTED};
 use tupehiwo_tests::compare::Pair;
 use tupehiwo_tests::model::{Mark, Number, Object, State, THINGS, Task, Thing};

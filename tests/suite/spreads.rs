@@ -1,9 +1,9 @@
 //! Every number in every part of a spread: followed, marked, a driver and an object of one,
 //! and each in its turn of a chain. A number, a place or a count cut short shows here.
 
-use tupehiwo::ffi::{Order, code};
+use tupehiwo::ffi::code;
 use tupehiwo_tests::compare::Pair;
-use tupehiwo_tests::model::{Mark, Number, Object, RECORD, State, THINGS, Task, Thing};
+use tupehiwo_tests::model::{Mark, Number, Object, RECORD, State, Task, Thing};
 use tupehiwo_tests::request;
 use tupehiwo_tests::worlds::{self, FLAT, numbers};
 

@@ -1,8 +1,6 @@
 //! A tally for each task: whom a call counts on, what zeroes the list, what leaves all of it
 //! as it was, and where counts stop.
 
-use std::ops::Range;
-
 use tupehiwo::ffi::{self, Answer, Order, Request, Tally, code};
 use tupehiwo_tests::causes::how_many;
 use tupehiwo_tests::compare::Pair;

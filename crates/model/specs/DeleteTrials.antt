@@ -8,9 +8,10 @@ use lib.ListN.{replicate}
 use Rattle.rows.specs.Rows.{addCell}
 use Rattle.rows.specs.Size.{present, rowSize}
 use Rattle.records.specs.Records.{setRecord, root, within, containerByte, spareByte}
+use Rattle.model.specs.Verdicts.{row-filled, row-feeding}
 use Rattle.model.specs.State.{Memory, memory, flowRow, writeRow}
 use Rattle.model.specs.Effects.{mark-outside, effect, effects}
-use Rattle.model.specs.Events.{feedsUnmarked, delete, fed}
+use Rattle.model.specs.Events.{verdictOf, feedsUnmarked, delete, fed}
 use Rattle.model.specs.declared.Call.the-variants.{Delete}
 use Rattle.model.specs.Trials.{Pair, _↣_, Trial, Q, fresh, trial}
 
@@ -84,23 +85,22 @@ TrailKept =
     × (leads 1 5 ≡ false)
     × (leads 5 2 ≡ false)
 
--- ---- whole calls
+-- ---- with accesses: the core and task 1 have write access to the folder
 
--- the core and task 1 have write access to the folder
-unfoldable pub scratch : ℕ → ℕ → ℕ → List Pair → Memory
-scratch core two file flows =
-    memory (filed core two file (fresh .bytes)) (recording flows (addCell rowSize (addCell rowSize (fresh .words) (writeRow present 0) 3) (writeRow present 1) 3))
+unfoldable pub scratch : List ℕ → ℕ → List Pair → Memory
+scratch bs file flows =
+    memory (filed 0 0 file bs) (recording flows (addCell rowSize (addCell rowSize (fresh .words) (writeRow present 0) 3) (writeRow present 1) 3))
 
 -- with an object 7 in the file
 unfoldable pub filling : Memory → Memory
 filling m = memory (setRecord (m .bytes) 7 2 0 0 0 (containerByte (within 4) present) 0 (spareByte (within 4) present)) (m .words)
 
+-- row 16, and row 12 before it, on no more bytes than are needed
+abbrev pub LastRows : Type 0
+LastRows =
+    let m = scratch (replicate 64 0) 1 (4 ↣ 2 ∷ []) in
+    (verdictOf (delete Q m 1 0 4 3) ≡ row-feeding) × (verdictOf (delete Q (filling m) 1 0 4 3) ≡ row-filled)
+
+-- a whole call, granted
 unfoldable pub deletions : List Trial
-deletions =
-    -- granted
-    trial Q (scratch 0 0 0 (1 ↣ 4 ∷ 4 ↣ 2 ∷ [])) (Delete 1 0 4 3) 0 (1 ↣ 2 ∷ 0 ↣ 2 ∷ [])
-    -- refused with 16
-    ∷ trial Q (scratch 0 0 1 (4 ↣ 2 ∷ [])) (Delete 1 0 4 3) 16 (4 ↣ 2 ∷ [])
-    -- and with 12 before it
-    ∷ trial Q (filling (scratch 0 0 1 (4 ↣ 2 ∷ []))) (Delete 1 0 4 3) 12 (4 ↣ 2 ∷ [])
-    ∷ []
+deletions = trial Q (scratch (fresh .bytes) 0 (1 ↣ 4 ∷ 4 ↣ 2 ∷ [])) (Delete 1 0 4 3) 0 (1 ↣ 2 ∷ 0 ↣ 2 ∷ []) ∷ []
