@@ -1,8 +1,8 @@
 -- Trials of the history around a deleted file, on the state of model/DeleteTrials in which task 1 fed the file 4 and the file fed task 2.
 -- Assumes nothing.
-use mathlib.Core.Path.{_≡_, refl}
+use mathlib.Core.Path.{_≡_, refl, sym, subst}
 use mathlib.Core.Bool.{Bool, true, false}
-use mathlib.Core.List.{[], _∷_}
+use mathlib.Core.List.{[], _∷_, List·Memᴰ, List·Memᴰ·head}
 use Prim.Native.Nat.{ℕ}
 use Rattle.bits.specs.All.{upTo}
 use Rattle.bits.specs.Bit.{bit, wordOf}
@@ -15,7 +15,7 @@ use Rattle.model.specs.Events.{delete}
 use Rattle.model.specs.Trials.{_↣_}
 use Rattle.model.specs.DeleteTrials.{filed, recording, shelf, deletedBy}
 use Rattle.containment.specs.Lists.{starting, marking, other}
-use Rattle.containment.specs.History.{Life, History, nothing, lifeOf, isNow, Counting, every, direct, counts, joins, endedBy, grown, anew, enters}
+use Rattle.containment.specs.History.{Life, History, nothing, lifeOf, Trail, from, onward, isNow, Counting, every, direct, counts, joins, endedBy, grown, anew, enters}
 
 infix 75 _·_
 abbrev _·_ : ℕ → ℕ → Life
@@ -56,18 +56,18 @@ Lives k =
     (afterDelete k .ended 4 ≡ 1)
     × (afterDelete k .ended 1 ≡ 0)
     -- its joins stay
-    × (afterCreate k .joined (1 · 0) (4 · 0) ≡ true)
-    × (afterCreate k .joined (4 · 0) (2 · 0) ≡ true)
-    × (afterCreate k .joined (0 · 0) (4 · 0) ≡ true)
+    × (afterMark k .joined (1 · 0) (4 · 0) ≡ true)
+    × (afterMark k .joined (4 · 0) (2 · 0) ≡ true)
+    × (afterMark k .joined (0 · 0) (4 · 0) ≡ true)
     -- what bridging recorded joins only where every flow counts
-    × (afterCreate k .joined (1 · 0) (2 · 0) ≡ isEvery k)
+    × (afterMark k .joined (1 · 0) (2 · 0) ≡ isEvery k)
     -- only its driver is joined to the new one
-    × (afterCreate k .joined (0 · 0) (4 · 1) ≡ true)
-    × (afterCreate k .joined (1 · 0) (4 · 1) ≡ false)
-    × (afterCreate k .joined (4 · 1) (2 · 0) ≡ false)
+    × (afterMark k .joined (0 · 0) (4 · 1) ≡ true)
+    × (afterMark k .joined (1 · 0) (4 · 1) ≡ false)
+    × (afterMark k .joined (4 · 1) (2 · 0) ≡ false)
     -- nothing was joined against a flow, or without one
-    × (afterCreate k .joined (2 · 0) (4 · 0) ≡ false)
-    × (afterCreate k .joined (1 · 0) (5 · 0) ≡ false)
+    × (afterMark k .joined (2 · 0) (4 · 0) ≡ false)
+    × (afterMark k .joined (1 · 0) (5 · 0) ≡ false)
     -- the mark names the present life
     × (afterMark k .named ≡ 1 · 0 ∷ [])
     -- with the start all begins anew: what stands then is joined, whoever recorded it, and nothing else is
@@ -82,3 +82,9 @@ pub lives : (k : Counting) → Lives k
 unfolding found deleted afterDelete remade afterCreate afterMark afterStart nothing lifeOf enters counts joins endedBy isNow grown anew upTo deletedBy delete effects effect bridged joinRow clearThing clearColumn clearRow cutCell addCell shelf filed recording field setField setRecord isTask isObject wordOf bit hasFlow cell inUse task object marked objectOf feeder fedBy
 lives every = (refl, refl, refl, refl, refl, refl, refl, refl, refl, refl, refl, refl, refl, refl, refl, refl, refl)
 lives direct = (refl, refl, refl, refl, refl, refl, refl, refl, refl, refl, refl, refl, refl, refl, refl, refl, refl)
+
+-- a chain leads from task 1 over the file's first life, which is over, to task 2
+pub led : (k : Counting) → Trail (afterMark k) (2 · 0)
+led k =
+    let t = lives k in
+    onward (4 · 0) (2 · 0) (onward (1 · 0) (4 · 0) (from (1 · 0) (subst (List·Memᴰ (1 · 0)) (sym (t .11)) (List·Memᴰ·head refl))) (t .2)) (t .3)
