@@ -51,7 +51,7 @@ Bridges =
     -- nor does the driver; levels play no part
     × Leaves 1 (shelf 0 0 0 (1 ↣ 4 ∷ 4 ↣ 0 ∷ 4 ↣ 2 ∷ [])) (1 ↣ 0 ∷ 1 ↣ 2 ∷ 0 ↣ 2 ∷ [])
     -- a free number neither feeds nor is fed, but its other flows stay; a flow from the file to itself leads nowhere
-    × Leaves 1 (shelf 0 0 0 (4 ↣ 4 ∷ 6 ↣ 4 ∷ 4 ↣ 6 ∷ 4 ↣ 2 ∷ 6 ↣ 2 ∷ 2 ↣ 6 ∷ [])) (0 ↣ 2 ∷ 6 ↣ 2 ∷ 2 ↣ 6 ∷ [])
+    × Leaves 1 (shelf 0 0 0 (4 ↣ 4 ∷ 6 ↣ 4 ∷ 4 ↣ 6 ∷ 4 ↣ 2 ∷ 6 ↣ 5 ∷ 5 ↣ 6 ∷ [])) (0 ↣ 2 ∷ 6 ↣ 5 ∷ 5 ↣ 6 ∷ [])
     -- marks play no part
     × Leaves 1 (shelf 0 1 1 (1 ↣ 4 ∷ 4 ↣ 2 ∷ [])) (1 ↣ 2 ∷ 0 ↣ 2 ∷ [])
     -- but with the driver marked the flow of document 01 is recorded besides, also where the driver asks
