@@ -163,13 +163,10 @@ pub cell-row : (n x : ℕ) (ws : List ℕ) (x′ y : ℕ) → y < 64 * n → cel
 unfolding clearRow
 cell-row n x ws x′ y h =
     up-clears _ (λ v. cell n v x′ y) (λ i. eqb (place n x′ y) (n * x + i) && true) n
-    (λ i v l. cell-change n (λ w. 0) v (n * x + i) x′ y (inr refl) ∙ go (eqb (place n x′ y) (n * x + i)) (cell n v x′ y)) ws
+    (λ i v l. cell-change n (λ w. 0) v (n * x + i) x′ y (inr refl)
+    ∙ ap (λ (b : Bool). cond (eqb (place n x′ y) (n * x + i)) b (cell n v x′ y)) (bit-zero (y % 64) ∙ sym (and-false (cell n v x′ y)))
+    ∙ cond-cut (eqb (place n x′ y) (n * x + i)) (cell n v x′ y) true) ws
     ∙ ap (λ (b : Bool). cell n ws x′ y && not b) (any-place n x x′ (y / 64) (λ i. true) (omega arith) ∙ and-true (eqb x′ x))
-  where
-    go : (e b : Bool) → cond e (bit 0 (y % 64)) b ≡ (b && not (e && true))
-    go true true = bit-zero (y % 64)
-    go true false = bit-zero (y % 64)
-    go false b = sym (and-true b)
 
 pub cell-column : (n r y : ℕ) (ws : List ℕ) (x′ y′ : ℕ) → y < 64 * n → y′ < 64 * n
     → cell n (clearColumn n r y ws) x′ y′ ≡ (cell n ws x′ y′ && not (ltb x′ r && eqb y′ y))
