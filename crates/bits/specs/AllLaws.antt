@@ -2,12 +2,12 @@
 -- Assumes nothing.
 use mathlib.Core.Path.{_≡_, refl, sym, ap, ap₂, _∙_}
 use mathlib.Core.Logic.{_⊎_, inl, inr, ⊎-elim}
-use mathlib.Core.Bool.{Bool, true, false, _&&_, _||_, true≢false, false≢true}
+use mathlib.Core.Bool.{Bool, true, false, _&&_, _||_, true≢false, false≢true, and-eq-true-iff}
 use Prim.Native.Nat.{ℕ, zero, suc, _+_, _<_}
 use native.Mathlib.Nat.{le-of-suc-le-suc, not-suc-le-zero, eq-or-lt-of-le, le-refl, le-trans, le-suc}
 use native.Mathlib.Numerals.{add-one}
-use lib.Dec.{eqb}
-use borrow.Author.Tests.{eqb-true, eq-eqb}
+use lib.Dec.{eqb, ltb}
+use borrow.Author.Tests.{eqb-true, eq-eqb, ltb-true, lt-ltb}
 use Rattle.bits.specs.All.{allB, anyB, upTo, _⇒_}
 
 -- ---- Bools
@@ -51,6 +51,9 @@ both-ways false false f g = refl
 pub not-so : (b : Bool) → (b ≡ true → ⊥) → b ≡ false
 not-so true h = absurd (h refl)
 not-so false h = refl
+
+pub eqb-sym : (a b : ℕ) → eqb a b ≡ eqb b a
+eqb-sym a b = both-ways _ _ (λ e. eq-eqb b a (sym (eqb-true a b e))) (λ e. eq-eqb a b (sym (eqb-true b a e)))
 
 pub implies : (a b : Bool) → (a ⇒ b) ≡ true → a ≡ true → b ≡ true
 implies true b e p = e
@@ -143,12 +146,21 @@ any-or n p q =
     (λ b. let a = any-at n q b in any-i n (λ i. p i || q i) (a .0) (a .1) (or-r (p (a .0)) _ (a .2)))
     (or-cases (anyB n p) (anyB n q) e))
 
--- no number passes, and one does
+-- no number passes
+pub none-at : (n : ℕ) (p : ℕ → Bool) → anyB n p ≡ false → (i : ℕ) → i < n → p i ≡ false
+none-at n p h i l = not-so _ (λ t. true≢false (sym (any-i n p i l t) ∙ h))
+
 pub any-false : (n : ℕ) → anyB n (λ i. false) ≡ false
 any-false n = not-so _ (λ e. false≢true (any-at n (λ i. false) e .2))
 
-pub any-one : (n : ℕ) (p : ℕ → Bool) (k : ℕ) → k < n → anyB n (λ i. eqb i k && p i) ≡ p k
-any-one n p k l =
+-- no number but k passes
+pub any-here : (n : ℕ) (p : ℕ → Bool) (k : ℕ) → anyB n (λ i. eqb k i && p i) ≡ (ltb k n && p k)
+any-here n p k =
     both-ways _ _
-    (λ e. let a = any-at n (λ i. eqb i k && p i) e in ap p (sym (eqb-true _ _ (and-l (eqb (a .0) k) (p (a .0)) (a .2)))) ∙ and-r (eqb (a .0) k) (p (a .0)) (a .2))
-    (λ e. any-i n (λ i. eqb i k && p i) k l (and-i (eq-eqb k k refl) e))
+    (λ e. let a = any-at n (λ i. eqb k i && p i) e in
+    let b = simp and-eq-true-iff at (a .2) in
+    let d : k ≡ a .0 = eqb-true k (a .0) (b .0) in and-i (lt-ltb k n (rw d (a .1))) (ap p d ∙ b .1))
+    (λ e. let b = simp and-eq-true-iff at e in any-i n (λ i. eqb k i && p i) k (ltb-true k n (b .0)) (and-i (eq-eqb k k refl) (b .1)))
+
+pub any-one : (n : ℕ) (p : ℕ → Bool) (k : ℕ) → k < n → anyB n (λ i. eqb k i && p i) ≡ p k
+any-one n p k l = any-here n p k ∙ ap (λ (b : Bool). b && p k) (lt-ltb k n l)

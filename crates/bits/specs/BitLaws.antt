@@ -98,6 +98,11 @@ bit-pow (suc j) zero =
 bit-pow (suc j) (suc i) =
     let e : 2 ^ suc j / 2 ≡ 2 ^ j = omega arith in bit-half _ i ∙ ap (λ (x : ℕ). bit x i) e ∙ bit-pow j i ∙ sym (eqb·suc-suc i j)
 
+-- a word of one bit, or of none
+pub bit-one : (b : Bool) (j i : ℕ) → bit (cond b (2 ^ j) 0) i ≡ (b && eqb i j)
+bit-one true j i = bit-pow j i
+bit-one false j i = bit-zero i
+
 -- a number of k digits has no bit past them
 pub bit-past : (k w i : ℕ) → w < 2 ^ k → k ≤ i → bit w i ≡ false
 bit-past zero w i h l = ap (λ (x : ℕ). bit x i) (lt-one h) ∙ bit-zero i
@@ -204,13 +209,9 @@ low-more p k = go (p k)
 pub bit-lowWord : (p : ℕ → Bool) (k i : ℕ) → i < k → bit (lowWord p k) i ≡ p i
 bit-lowWord p zero i l = absurd (not-suc-le-zero l)
 bit-lowWord p (suc k) i l =
-    ap (λ (w : ℕ). bit w i) (sym (low-more p k)) ∙ bit-or _ _ i ∙ ap (λ (b : Bool). bit (lowWord p k) i || b) (one-bit (p k))
+    ap (λ (w : ℕ). bit w i) (sym (low-more p k)) ∙ bit-or _ _ i ∙ ap (λ (b : Bool). bit (lowWord p k) i || b) (bit-one (p k) k i)
     ∙ ⊎-elim last (λ h. earlier h (bit-lowWord p k i h)) (eq-or-lt-of-le (le-of-suc-le-suc l))
   where
-    one-bit : (b : Bool) → bit (cond b (2 ^ k) 0) i ≡ (b && eqb i k)
-    one-bit true = bit-pow k i
-    one-bit false = bit-zero i
-
     last : i ≡ k → (bit (lowWord p k) i || (p k && eqb i k)) ≡ p i
     last e = rw (e, bit-past k (lowWord p k) k (low-lt p k) (le-refl k), eq-eqb k k refl) (and-true (p k))
 

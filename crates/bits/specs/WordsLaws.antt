@@ -1,9 +1,9 @@
 -- Laws of words with a bit for each number, 64 numbers a word, for every number n of words.
 -- Assumes nothing.
 use mathlib.Core.Path.{_≡_, refl, sym, ap, _∙_}
-use mathlib.Core.Bool.{Bool, true, false, not, true≢false}
+use mathlib.Core.Bool.{Bool, true, false, not}
 use mathlib.Core.List.{List, [], _∷_}
-use Prim.Native.Nat.{ℕ, zero, suc, _+_, _-_, _*_, _/_, _%_, _^_, _<_}
+use Prim.Native.Nat.{ℕ, zero, suc, _+_, _*_, _/_, _%_, _^_, _<_}
 use native.Mathlib.Omega.{arith}
 use lib.Dec.{eqb}
 use lib.ListN.{length, getD, replicate}
@@ -12,7 +12,7 @@ use borrow.Author.Tests.{eqb-true, eq-eqb, not-true}
 use Rattle.bits.specs.Bit.{bit, inWords, wordsOf, wordsBy}
 use Rattle.bits.specs.BitLaws.{bit-zero, bit-ext, bit-word, word-is, word-lt}
 use Rattle.bits.specs.All.{allB, anyB}
-use Rattle.bits.specs.AllLaws.{both-ways, not-so, all-at, all-i, any-i, any-ext, any-false}
+use Rattle.bits.specs.AllLaws.{both-ways, all-at, all-i, none-at, any-ext, any-false}
 
 -- each of them is a word
 pub record Fit (ws : List ℕ) : Type 0 where
@@ -55,10 +55,7 @@ none-in n ws f = both-ways _ _ there back
         (any-ext (64 * n) (inWords ws) (λ x. false) (λ x l. ap (λ (w : ℕ). bit w (x % 64)) (eqb-true _ 0 (all-at n _ h (x / 64) (omega arith))) ∙ bit-zero (x % 64)) ∙ any-false (64 * n))
 
     back : not (anyB (64 * n) (inWords ws)) ≡ true → allB n (λ j. eqb (getD ws j 0) 0) ≡ true
-    back h = all-i n _ (λ j l. eq-eqb _ 0 (bit-ext 64 _ 0 (f .word j) (omega arith) (λ i b. sym (in-at ws j i b refl) ∙ out (64 * j + i) (omega arith) ∙ sym (bit-zero i))))
-      where
-        out : (x : ℕ) → x < 64 * n → inWords ws x ≡ false
-        out x l = not-so _ (λ t. true≢false (sym (any-i (64 * n) (inWords ws) x l t) ∙ not-true _ h))
+    back h = all-i n _ (λ j l. eq-eqb _ 0 (bit-ext 64 _ 0 (f .word j) (omega arith) (λ i b. sym (in-at ws j i b refl) ∙ none-at (64 * n) (inWords ws) (not-true _ h) (64 * j + i) (omega arith) ∙ sym (bit-zero i))))
 
 -- ---- words one by one
 

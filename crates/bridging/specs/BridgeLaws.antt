@@ -1,12 +1,13 @@
 -- What the sets and the pass over the rows make of the memory.
 -- Assumes nothing.
 use mathlib.Core.Path.{_≡_, sym, ap, ap₂, _∙_}
-use mathlib.Core.Bool.{Bool, true, false, not, _&&_, _||_}
+use mathlib.Core.Bool.{Bool, true, false, not, cond, _&&_, _||_}
 use mathlib.Core.List.{List}
 use Prim.Native.Nat.{ℕ, _+_, _≤_, _<_}
 use native.Mathlib.Nat.{le-refl}
 use native.Mathlib.Omega.{arith}
 use lib.Dec.{eqb}
+use borrow.Author.Tests.{not-true}
 use Rattle.bits.specs.All.{anyB}
 use Rattle.bits.specs.AllLaws.{and-false, any-ext}
 use Rattle.rows.specs.Size.{rowSize, numbers, WordsLent}
@@ -26,7 +27,7 @@ module _ (m : Memory) (x : ℕ) where
   -- an empty row feeds nothing
   pub fed-none : {row : Set} → row ≡ setOf (λ y. cell rowSize (m .words) x y) → not (anyB numbers (has row)) ≡ true → row ≡ setOf (fedBy m x)
   unfolding fedBy hasFlow
-  fed-none is none = is ∙ set-ext _ _ (λ y l. let e = sym (in-set _ is y l) ∙ empty-at _ none y l in rw e (sym (and-false (inUse m y && not (eqb y x)))))
+  fed-none is none = is ∙ set-ext _ (fedBy m x) (λ y l. rw (empty-at _ is (not-true _ none) y l) (sym (and-false (inUse m y && not (eqb y x)))))
 
   pub fed-is : {used others row fed : Set} → used ≡ setOf (λ y. not (eqb (field (m .bytes) y 0) 0)) → others ≡ setOf (λ y. has used y && not (eqb y x))
       → row ≡ setOf (λ y. cell rowSize (m .words) x y) → fed ≡ setOf (λ y. has others y && has row y) → fed ≡ setOf (fedBy m x)
@@ -53,7 +54,7 @@ module _ (m : Memory) (x : ℕ) where
   -- where nothing is fed it changes nothing
   pub none-fed : {fed : Set} → fed ≡ setOf (fedBy m x) → not (anyB numbers (has fed)) ≡ true → m ≡ effect (bridge x) m
   unfolding effect
-  none-fed is none = ap (withWords m) (sym (bridged-none rowSize numbers (feeder m x) (fedBy m x) (m .words) (λ y l. sym (in-set _ is y l) ∙ empty-at _ none y l)))
+  none-fed is none = ap (withWords m) (sym (bridged-none rowSize numbers (feeder m x) (fedBy m x) (m .words) (empty-at _ is (not-true _ none))))
 
   -- row p is asked as it was
   module _ (lent : WordsLent (m .words)) (small : x < numbers) {p : ℕ} (l : p ≤ numbers) {v : List ℕ} (is : v ≡ passed p) {asked : Bool} (a : asked ≡ feeder (withWords m v) x p) where
@@ -63,12 +64,15 @@ module _ (m : Memory) (x : ℕ) where
         sym (a ∙ ap (λ (b : Bool). inUse m p && not (eqb p x) && (b || objectOf m p x))
         (ap (λ (u : List ℕ). cell rowSize u p x) is ∙ bridged-later rowSize p (feeder m x) (fedBy m x) (m .words) p x (le-refl p) (omega arith) small))
 
+    one-more : cond asked (joinRow rowSize p (λ y. fedBy m x y && not (eqb y p)) v) v ≡ passed (p + 1)
+    one-more = rw as-it-was at (bridged-more rowSize p (feeder m x) (fedBy m x) (m .words) v is)
+
     -- it is a feeder's, and joined; or it is no feeder's
     pub feeder-joined : {fed s : Set} {u : List ℕ} → fed ≡ setOf (fedBy m x) → s ≡ setOf (λ y. has fed y && not (eqb y p)) → u ≡ joinRow rowSize p (has s) v
         → asked ≡ true → u ≡ passed (p + 1)
     feeder-joined f b j t =
         j ∙ join-ext rowSize p _ (λ y. fedBy m x y && not (eqb y p)) v (λ y k. in-set _ b y k ∙ ap (λ (b : Bool). b && not (eqb y p)) (in-set _ f y k))
-        ∙ (rw (as-it-was ∙ t) at (bridged-more rowSize p (feeder m x) (fedBy m x) (m .words) v is))
+        ∙ (rw t at one-more)
 
     pub other-passed : asked ≡ false → v ≡ passed (p + 1)
-    other-passed t = rw (as-it-was ∙ t) at (bridged-more rowSize p (feeder m x) (fedBy m x) (m .words) v is)
+    other-passed t = rw t at one-more

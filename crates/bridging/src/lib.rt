@@ -53,11 +53,16 @@ fn is_feeder(bytes: &[u8], words: &[u64], x: u16, d: u16, p: u16) -> bool
     used & (p != x) & (bits::has_bit(w, (x as usize) % 64) | (d == p))
 }
 
+// What fed the object x, and its driver, is recorded as feeding what x fed. Nothing is bridged where x fed nothing.
 // One pass over the rows: that of each feeder is joined with what x fed, but for the feeder itself. A row is asked before it is joined, so all are asked as they were.
-fn join_feeders(bytes: &[u8], words: &mut [u64], x: u16, fed: Set)
-    requires { ⌜ BytesLent (now bytes) × WordsLent (now words) × (x < numbers) × (isObject (now bytes) x ≡ true) × (fed ≡ setOf (fedBy (memory (now bytes) (now words)) x)) ⌝ }
+pub fn bridge(bytes: &[u8], words: &mut [u64], x: u16)
+    requires { ⌜ BytesLent (now bytes) × WordsLent (now words) × (x < numbers) × (isObject (now bytes) x ≡ true) ⌝ }
     ensures { λ _. ⌜ memory (now (bytes .entry)) (now (words .exit)) ≡ effect (model.bridge x) (memory (now (bytes .entry)) (now (words .entry))) ⌝ }
 {
+    let fed = fed_by(bytes, words, x);
+    if sets::is_empty(fed) {
+        return;
+    }
     let d = records::field(bytes, x, DRIVER) as u16;
     let mut p: u16 = 0;
     while p < NUMBERS {
@@ -65,16 +70,5 @@ fn join_feeders(bytes: &[u8], words: &mut [u64], x: u16, fed: Set)
             sets::join_row(words, p, sets::but(fed, p));
         }
         p += 1;
-    }
-}
-
-// What fed the object x, and its driver, is recorded as feeding what x fed. Nothing is bridged where x fed nothing.
-pub fn bridge(bytes: &[u8], words: &mut [u64], x: u16)
-    requires { ⌜ BytesLent (now bytes) × WordsLent (now words) × (x < numbers) × (isObject (now bytes) x ≡ true) ⌝ }
-    ensures { λ _. ⌜ memory (now (bytes .entry)) (now (words .exit)) ≡ effect (model.bridge x) (memory (now (bytes .entry)) (now (words .entry))) ⌝ }
-{
-    let fed = fed_by(bytes, words, x);
-    if !sets::is_empty(fed) {
-        join_feeders(bytes, words, x, fed);
     }
 }

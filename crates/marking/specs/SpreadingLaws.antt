@@ -9,13 +9,13 @@ use native.Mathlib.Nat.{zero-add}
 use native.Mathlib.Omega.{arith}
 use borrow.Author.Tests.{not-true}
 use Rattle.bits.specs.All.{allB, anyB, _⇒_, countB}
-use Rattle.bits.specs.AllLaws.{either, any-ext, any-i, any-at, all-at, not-so, and-i, and-true, and-false}
+use Rattle.bits.specs.AllLaws.{either, any-ext, any-at, all-at, not-so, and-i, and-true, and-false}
 use Rattle.bits.specs.LoopLaws.{count-le, count-more}
 use Rattle.rows.specs.Size.{rowSize, numbers}
 use Rattle.rows.specs.Rows.{cell}
 use Rattle.sets.specs.declared.Set.{Set}
 use Rattle.sets.specs.Sets.{last, has, setOf, joined}
-use Rattle.sets.specs.SetLaws.{in-set, set-ext}
+use Rattle.sets.specs.SetLaws.{in-set, set-ext, empty-at}
 use Rattle.sets.specs.WalkLaws.{joined-ext}
 use Rattle.model.specs.State.{Memory, inUse, marked}
 use Rattle.model.specs.StateLaws.{object-used, marked-below}
@@ -219,26 +219,23 @@ still m h c =
 -- nothing is marked
 pub spread-none : (m : Memory) → Sized m → {src : Set} → src ≡ setOf (marked m) → anyB numbers (has src) ≡ false → record { verdict = 0; rounds = 0; memory = m } ≡ spread m
 unfolding spread
-spread-none m h {src} e f =
+spread-none m h e f =
     let s = still m h (record { by-flow = λ x y q l u f. absurd (none x q); by-driver = λ x y q l o d. absurd (none x q) }) in
     let r = sym (rest-rounds numbers m s) in
     let a = sym (rest-after numbers m s) in
     λ i. record { verdict = 0; rounds = r i; memory = a i }
   where
     none : (x : ℕ) → marked m x ≡ true → ⊥
-    none x p = let l = marked-below m x h p in true≢false (sym (any-i numbers (has src) x l (in-set _ e x l ∙ p)) ∙ f)
+    none x p = true≢false (sym p ∙ empty-at _ e f x (marked-below m x h p))
 
 -- all in use are marked
 pub sets-none : (m : Memory) → Sized m → {left : Set} → left ≡ setOf (λ x. unmarked m x) → anyB numbers (has left) ≡ false → record { marked = left; rounds = 0 } ≡ spreadSets m
 unfolding spreadSets
-sets-none m h {left} e f =
+sets-none m h e f =
     let s = still m h (record { by-flow = λ x y q l u f. all y l u; by-driver = λ x y q l o d. all y l (object-used m y o) }) in
     let r = sym (rest-rounds numbers m s) in
-    let a = e ∙ set-ext _ (λ x. unmarked m x && marked (afterRounds numbers m) x) (λ x l. rw (none x l)) in
+    let a = e ∙ set-ext _ (λ x. unmarked m x && marked (afterRounds numbers m) x) (λ x l. rw (empty-at _ e f x l)) in
     λ i. record { marked = a i; rounds = r i }
   where
-    none : (x : ℕ) → x < numbers → unmarked m x ≡ false
-    none x l = not-so _ (λ p. true≢false (sym (any-i numbers (has left) x l (in-set _ e x l ∙ p)) ∙ f))
-
     all : (x : ℕ) → x < numbers → inUse m x ≡ true → marked m x ≡ true
-    all x l u = ⊎-elim (λ p. p) (λ p. absurd (true≢false (sym (and-i u (ap not p)) ∙ none x l))) (either (marked m x))
+    all x l u = ⊎-elim (λ p. p) (λ p. absurd (true≢false (sym (and-i u (ap not p)) ∙ empty-at _ e f x l))) (either (marked m x))

@@ -10,7 +10,7 @@ use lib.Dec.{eqb, ltb}
 use lib.ListN.{length, getD, getD-replicate}
 use borrow.Author.Tests.{eqb-true, eqb-false, eq-eqb, ne-eqb, lt-ltb, le-ltb}
 use Rattle.bits.specs.All.{one}
-use Rattle.bits.specs.AllLaws.{either, and-i, and-l, and-r, or-false, or-true, both-ways}
+use Rattle.bits.specs.AllLaws.{either, and-i, or-false, or-true}
 use Rattle.rows.specs.Rows.{cell, addCell}
 use Rattle.rows.specs.RowLaws.{same-place, place-below, cell-add, cell-clear, cell-bridged, length-add, length-clear, length-bridged}
 use Rattle.rows.specs.Size.{Size, rowSizeOf, numbersOf, tables, lentWords}
@@ -104,21 +104,12 @@ cellAfter m i u v (clear x) b = b && not (eqb u x) && not (eqb v x)
 cellAfter m i u v (mark-outside e) b = b
 cellAfter m i u v (mark-thing x) b = b
 
-same-row : (size : Size) (i j u x : ℕ) → u < numbersOf size → x < numbersOf size → eqb (rowOf size i u) (rowOf size j x) ≡ (eqb i j && eqb u x)
-same-row size i j u x lu lx = both-ways _ _ there back
-  where
-    there : eqb (rowOf size i u) (rowOf size j x) ≡ true → (eqb i j && eqb u x) ≡ true
-    there e = let q = same-place (numbersOf size) lx lu (eqb-true _ _ e) in and-i (eq-eqb i j (q .0)) (eq-eqb u x (q .1))
-
-    back : (eqb i j && eqb u x) ≡ true → eqb (rowOf size i u) (rowOf size j x) ≡ true
-    back e = eq-eqb _ _ (ap₂ (rowOf size) (eqb-true i j (and-l (eqb i j) (eqb u x) e)) (eqb-true u x (and-r (eqb i j) (eqb u x) e)))
-
 table-add : (size : Size) (ws : List ℕ) (i j x y u v : ℕ) → length ws ≡ lentWords size → j < tables → x < numbersOf size → y < numbersOf size → u < numbersOf size → v < numbersOf size
     → cell (rowSizeOf size) (addCell (rowSizeOf size) ws (rowOf size j x) y) (rowOf size i u) v
     ≡ cond (eqb i j) (cell (rowSizeOf size) ws (rowOf size i u) v || (eqb u x && eqb v y)) (cell (rowSizeOf size) ws (rowOf size i u) v)
 table-add size ws i j x y u v l lj lx ly lu lv =
     cell-add (rowSizeOf size) ws (rowOf size j x) y (rowOf size i u) v (rw l (place-below (rowSizeOf size) (numbersOf size) tables j x y lj lx ly)) ly lv
-    ∙ ap (λ (b : Bool). cell (rowSizeOf size) ws (rowOf size i u) v || (b && eqb v y)) (same-row size i j u x lu lx)
+    ∙ ap (λ (b : Bool). cell (rowSizeOf size) ws (rowOf size i u) v || (b && eqb v y)) (same-place (numbersOf size) j x i u lx lu)
     ∙ go (eqb i j) (cell (rowSizeOf size) ws (rowOf size i u) v)
   where
     go : (s b : Bool) → (b || ((s && eqb u x) && eqb v y)) ≡ cond s (b || (eqb u x && eqb v y)) b

@@ -2,7 +2,7 @@
 -- Assumes nothing.
 use mathlib.Core.Path.{_≡_, refl, sym, ap, ap₂, _∙_}
 use mathlib.Core.Logic.{_⊎_, inl, inr, ⊎-elim}
-use mathlib.Core.Bool.{Bool, true, false, not, _&&_, _||_, cond}
+use mathlib.Core.Bool.{Bool, true, false, not, _&&_, _||_, cond, and-assoc, and-comm, and-eq-true-iff}
 use mathlib.Core.List.{List}
 use Prim.Native.Nat.{ℕ, zero, suc, _+_, _-_, _*_, _/_, _%_, _^_, _≤_, _<_}
 use native.Mathlib.Nat.{le-refl, le-suc, le-trans, mul-le-mul-left}
@@ -17,7 +17,7 @@ use borrow.Author.Tests.{eqb-true, eqb-false, eq-eqb, ltb-true, ltb-false, lt-lt
 use Rattle.bits.specs.Bit.{bit, wordOf}
 use Rattle.bits.specs.BitLaws.{bit-and, bit-or, bit-pow, bit-not, bit-zero, bit-word, word-is, word-lt}
 use Rattle.bits.specs.All.{anyB, upTo}
-use Rattle.bits.specs.AllLaws.{either, both-ways, or-l, and-l, and-r, and-i, and-true, or-false, any-i, any-at, up-more}
+use Rattle.bits.specs.AllLaws.{either, both-ways, or-l, and-i, and-false, and-true, or-false, any-ext, any-here, any-one, up-more}
 use Rattle.bits.specs.LoopLaws.{up-keeps, up-sets, up-ext}
 use Rattle.bits.specs.WordsLaws.{getD-zeros}
 use Rattle.rows.specs.Size.{Size, small, large, numbersOf}
@@ -67,10 +67,24 @@ cell-set n ws p v x y h = cell-change n (λ w. v) ws p x y (inl h)
 
 -- ---- no two columns of rows of n words stand at one place
 
-pub same-place : (n : ℕ) {x q x′ q′ : ℕ} → q < n → q′ < n → n * x′ + q′ ≡ n * x + q → (x′ ≡ x) × (q′ ≡ q)
-same-place n {x} {q} {x′} {q′} h h′ e =
-    let p : x′ * n + q′ ≡ x * n + q = omega arith in
-    (sym (digits-div x′ h′) ∙ ap (λ (k : ℕ). k / n) p ∙ digits-div x h, sym (digits-mod x′ h′) ∙ ap (λ (k : ℕ). k % n) p ∙ digits-mod x h)
+pub same-place : (n x q x′ q′ : ℕ) → q < n → q′ < n → eqb (n * x′ + q′) (n * x + q) ≡ (eqb x′ x && eqb q′ q)
+same-place n x q x′ q′ h h′ = both-ways _ _ there back
+  where
+    there : eqb (n * x′ + q′) (n * x + q) ≡ true → (eqb x′ x && eqb q′ q) ≡ true
+    there e =
+        let p : x′ * n + q′ ≡ x * n + q = omega (arith, eqb-true (n * x′ + q′) (n * x + q) e) in
+        and-i
+        (eq-eqb x′ x (sym (digits-div x′ h′) ∙ ap (λ (k : ℕ). k / n) p ∙ digits-div x h))
+        (eq-eqb q′ q (sym (digits-mod x′ h′) ∙ ap (λ (k : ℕ). k % n) p ∙ digits-mod x h))
+
+    back : (eqb x′ x && eqb q′ q) ≡ true → eqb (n * x′ + q′) (n * x + q) ≡ true
+    back e = let d = simp and-eq-true-iff at e in eq-eqb _ _ (ap₂ (λ (k l : ℕ). n * k + l) (eqb-true x′ x (d .0)) (eqb-true q′ q (d .1)))
+
+-- word q of row x′ is among the words of row x that pass
+any-place : (n x x′ q : ℕ) (p : ℕ → Bool) → q < n → anyB n (λ i. eqb (n * x′ + q) (n * x + i) && p i) ≡ (eqb x′ x && p q)
+any-place n x x′ q p h =
+    any-ext n _ _ (λ i l. ap (λ (b : Bool). b && p i) (same-place n x i x′ q l h ∙ and-comm (eqb x′ x) (eqb q i)) ∙ and-assoc (eqb q i) (eqb x′ x) (p i))
+    ∙ any-one n (λ i. eqb x′ x && p i) q h
 
 -- of t tables of r rows each, a column of a row has its place
 pub place-below : (n r t j x y : ℕ) → j < t → x < r → y < 64 * n → place n (r * j + x) y < n * (r * t)
@@ -78,20 +92,16 @@ place-below n r t j x y lj lx ly =
     let row : suc (r * j + x) ≤ r * t = omega (arith, mul-le-mul-left r lj) in
     omega (arith, mul-le-mul-left n row)
 
-same-cell : (n x y x′ y′ : ℕ) → y < 64 * n → y′ < 64 * n → (eqb (place n x′ y′) (place n x y) && eqb (y′ % 64) (y % 64)) ≡ (eqb x′ x && eqb y′ y)
-same-cell n x y x′ y′ h h′ = both-ways _ _ there back
-  where
-    there : (eqb (place n x′ y′) (place n x y) && eqb (y′ % 64) (y % 64)) ≡ true → (eqb x′ x && eqb y′ y) ≡ true
-    there e =
-        let d = same-place n {x = x} {q = y / 64} {x′ = x′} {q′ = y′ / 64} (omega arith) (omega arith) (eqb-true _ _ (and-l (eqb (place n x′ y′) (place n x y)) _ e)) in
-        let m : y′ % 64 ≡ y % 64 = eqb-true _ _ (and-r (eqb (place n x′ y′) (place n x y)) _ e) in
-        and-i (eq-eqb x′ x (d .0)) (eq-eqb y′ y (omega arith))
+low : (y : ℕ) → y % 64 < 64
+low y = omega arith
 
-    back : (eqb x′ x && eqb y′ y) ≡ true → (eqb (place n x′ y′) (place n x y) && eqb (y′ % 64) (y % 64)) ≡ true
-    back e =
-        let d : x′ ≡ x = eqb-true _ _ (and-l (eqb x′ x) (eqb y′ y) e) in
-        let f : y′ ≡ y = eqb-true _ _ (and-r (eqb x′ x) (eqb y′ y) e) in
-        and-i (eq-eqb _ _ (ap₂ (place n) d f)) (eq-eqb _ _ (ap (λ (v : ℕ). v % 64) f))
+same-cell : (n x y x′ y′ : ℕ) → y < 64 * n → y′ < 64 * n → (eqb (place n x′ y′) (place n x y) && eqb (y′ % 64) (y % 64)) ≡ (eqb x′ x && eqb y′ y)
+same-cell n x y x′ y′ h h′ =
+    let d : y ≡ 64 * (y / 64) + y % 64 = omega arith in
+    let d′ : y′ ≡ 64 * (y′ / 64) + y′ % 64 = omega arith in
+    ap (λ (b : Bool). b && eqb (y′ % 64) (y % 64)) (same-place n x (y / 64) x′ (y′ / 64) (omega arith) (omega arith))
+    ∙ and-assoc (eqb x′ x) (eqb (y′ / 64) (y / 64)) (eqb (y′ % 64) (y % 64))
+    ∙ ap (λ (b : Bool). eqb x′ x && b) (sym (ap₂ eqb d′ d ∙ same-place 64 (y / 64) (y % 64) (y′ / 64) (y′ % 64) (low y) (low y′)))
 
 -- ---- one column of one row
 
@@ -103,18 +113,22 @@ cond-cut : (e h q : Bool) → cond e (h && not q) h ≡ (h && not (e && q))
 cond-cut true h q = refl
 cond-cut false h q = sym (and-true h)
 
-low : (y : ℕ) → y % 64 < 64
-low y = omega arith
+-- a word joined with k
+cell-or : (n : ℕ) (ws : List ℕ) (p k x y : ℕ) → p < length ws
+    → cell n (set ws p (bitOr (getD ws p 0) k)) x y ≡ (cell n ws x y || (eqb (place n x y) p && bit k (y % 64)))
+unfolding cell
+cell-or n ws p k x y l =
+    cell-change n (λ w. bitOr w k) ws p x y (inl l)
+    ∙ ap (λ (b : Bool). cond (eqb (place n x y) p) b (cell n ws x y)) (bit-or _ _ _)
+    ∙ cond-or (eqb (place n x y) p) (cell n ws x y) (bit k (y % 64))
 
 pub cell-add : (n : ℕ) (ws : List ℕ) (x y x′ y′ : ℕ) → place n x y < length ws → y < 64 * n → y′ < 64 * n
     → cell n (addCell n ws x y) x′ y′ ≡ (cell n ws x′ y′ || (eqb x′ x && eqb y′ y))
-unfolding cell addCell
+unfolding addCell
 cell-add n ws x y x′ y′ l h h′ =
-    cell-change n (λ w. bitOr w (2 ^ (y % 64))) ws (place n x y) x′ y′ (inl l)
-    ∙ ap (λ (b : Bool). cond (eqb (place n x′ y′) (place n x y)) b (cell n ws x′ y′))
-    (bit-or _ _ _ ∙ ap (λ (b : Bool). cell n ws x′ y′ || b) (bit-pow (y % 64) (y′ % 64)))
-    ∙ cond-or (eqb (place n x′ y′) (place n x y)) (cell n ws x′ y′) (eqb (y′ % 64) (y % 64))
-    ∙ ap (λ (b : Bool). cell n ws x′ y′ || b) (same-cell n x y x′ y′ h h′)
+    cell-or n ws (place n x y) (2 ^ (y % 64)) x′ y′ l
+    ∙ ap (λ (b : Bool). cell n ws x′ y′ || b)
+    (ap (λ (b : Bool). eqb (place n x′ y′) (place n x y) && b) (bit-pow (y % 64) (y′ % 64)) ∙ same-cell n x y x′ y′ h h′)
 
 -- a cut past the end changes nothing, and no column there is set
 pub cell-cut : (n : ℕ) (ws : List ℕ) (x y x′ y′ : ℕ) → y < 64 * n → y′ < 64 * n
@@ -148,43 +162,18 @@ up-clears f has p (suc n) h s =
 pub cell-row : (n x : ℕ) (ws : List ℕ) (x′ y : ℕ) → y < 64 * n → cell n (clearRow n x ws) x′ y ≡ (cell n ws x′ y && not (eqb x′ x))
 unfolding clearRow
 cell-row n x ws x′ y h =
-    up-clears _ (λ v. cell n v x′ y) word n (λ i v l. cell-change n (λ w. 0) v (n * x + i) x′ y (inr refl) ∙ go (word i) (cell n v x′ y)) ws
-    ∙ ap (λ (b : Bool). cell n ws x′ y && not b) (both-ways (anyB n word) (eqb x′ x) there back)
-  where
-    word : ℕ → Bool
-    word i = eqb (place n x′ y) (n * x + i)
-
-    go : (e b : Bool) → cond e (bit 0 (y % 64)) b ≡ (b && not e)
-    go true true = bit-zero (y % 64)
-    go true false = bit-zero (y % 64)
-    go false b = sym (and-true b)
-
-    there : anyB n word ≡ true → eqb x′ x ≡ true
-    there e =
-        let a = any-at n word e in
-        eq-eqb x′ x (same-place n (a .1) (omega arith) (eqb-true _ _ (a .2)) .0)
-
-    back : eqb x′ x ≡ true → anyB n word ≡ true
-    back e = any-i n word (y / 64) (omega arith) (eq-eqb _ _ (ap (λ (v : ℕ). n * v + y / 64) (eqb-true x′ x e)))
+    up-clears _ (λ v. cell n v x′ y) (λ i. eqb (place n x′ y) (n * x + i) && true) n
+    (λ i v l. cell-change n (λ w. 0) v (n * x + i) x′ y (inr refl)
+    ∙ ap (λ (b : Bool). cond (eqb (place n x′ y) (n * x + i)) b (cell n v x′ y)) (bit-zero (y % 64) ∙ sym (and-false (cell n v x′ y)))
+    ∙ cond-cut (eqb (place n x′ y) (n * x + i)) (cell n v x′ y) true) ws
+    ∙ ap (λ (b : Bool). cell n ws x′ y && not b) (any-place n x x′ (y / 64) (λ i. true) (omega arith) ∙ and-true (eqb x′ x))
 
 pub cell-column : (n r y : ℕ) (ws : List ℕ) (x′ y′ : ℕ) → y < 64 * n → y′ < 64 * n
     → cell n (clearColumn n r y ws) x′ y′ ≡ (cell n ws x′ y′ && not (ltb x′ r && eqb y′ y))
 unfolding clearColumn
 cell-column n r y ws x′ y′ h h′ =
-    up-clears _ (λ v. cell n v x′ y′) row r (λ x v l. cell-cut n v x y x′ y′ h h′) ws
-    ∙ ap (λ (b : Bool). cell n ws x′ y′ && not b) (both-ways (anyB r row) (ltb x′ r && eqb y′ y) there back)
-  where
-    row : ℕ → Bool
-    row x = eqb x′ x && eqb y′ y
-
-    there : anyB r row ≡ true → (ltb x′ r && eqb y′ y) ≡ true
-    there e =
-        let a = any-at r row e in
-        let d : x′ ≡ a .0 = eqb-true _ _ (and-l (eqb x′ (a .0)) (eqb y′ y) (a .2)) in
-        and-i (lt-ltb x′ r (rw d (a .1))) (and-r (eqb x′ (a .0)) (eqb y′ y) (a .2))
-
-    back : (ltb x′ r && eqb y′ y) ≡ true → anyB r row ≡ true
-    back e = any-i r row x′ (ltb-true x′ r (and-l (ltb x′ r) (eqb y′ y) e)) (and-i (eq-eqb x′ x′ refl) (and-r (ltb x′ r) (eqb y′ y) e))
+    up-clears _ (λ v. cell n v x′ y′) (λ x. eqb x′ x && eqb y′ y) r (λ x v l. cell-cut n v x y x′ y′ h h′) ws
+    ∙ ap (λ (b : Bool). cell n ws x′ y′ && not b) (any-here r (λ x. eqb y′ y) x′)
 
 -- in each table, row z < r and column y stay, but for row k and column k
 pub cell-clear : (n r t k : ℕ) (ws : List ℕ) (i z y : ℕ) → i < t → z < r → y < 64 * n → k < r → k < 64 * n
@@ -193,20 +182,9 @@ unfolding clearThing
 cell-clear n r t k ws i z y it zr yn kr kn =
     cell-column n (r * t) k _ (r * i + z) y kn yn
     ∙ ap₂ (λ (b e : Bool). b && not (e && eqb y k))
-    (up-clears _ (λ v. cell n v (r * i + z) y) table t (λ j v l. cell-row n (r * j + k) v (r * i + z) y yn) ws
-    ∙ ap (λ (b : Bool). cell n ws (r * i + z) y && not b) (both-ways (anyB t table) (eqb z k) there back))
+    (up-clears _ (λ v. cell n v (r * i + z) y) (λ j. eqb (r * i + z) (r * j + k)) t (λ j v l. cell-row n (r * j + k) v (r * i + z) y yn) ws
+    ∙ ap (λ (b : Bool). cell n ws (r * i + z) y && not b) (any-ext t _ _ (λ j l. same-place r j k i z kr zr) ∙ any-one t (λ j. eqb z k) i it))
     (lt-ltb (r * i + z) (r * t) (omega (arith, mul-le-mul-left r it)))
-  where
-    table : ℕ → Bool
-    table j = eqb (r * i + z) (r * j + k)
-
-    there : anyB t table ≡ true → eqb z k ≡ true
-    there e =
-        let a = any-at t table e in
-        eq-eqb z k (same-place r kr zr (eqb-true _ _ (a .2)) .1)
-
-    back : eqb z k ≡ true → anyB t table ≡ true
-    back e = any-i t table i it (eq-eqb _ _ (ap (λ (v : ℕ). r * i + v) (eqb-true z k e)))
 
 -- ---- lengths stay
 
@@ -251,34 +229,13 @@ length-join n x t ws = up-length _ n (λ i v. length-set v _ _) ws
 
 cell-join : (n x : ℕ) (t : ℕ → Bool) (ws : List ℕ) (x′ y : ℕ) → n * x + n ≤ length ws → y < 64 * n
     → cell n (joinRow n x t ws) x′ y ≡ (cell n ws x′ y || (eqb x′ x && t y))
-unfolding joinRow cell
+unfolding joinRow
 cell-join n x t ws x′ y room h =
-    up-sets _ (λ v. length v ≡ length ws) (λ v. cell n v x′ y) word n (λ i v e. length-set v _ _ ∙ e) one ws refl
-    ∙ ap (λ (b : Bool). cell n ws x′ y || b) (both-ways (anyB n word) (eqb x′ x && t y) there back)
-  where
-    word : ℕ → Bool
-    word i = eqb (place n x′ y) (n * x + i) && t (64 * i + y % 64)
-
-    one : (i : ℕ) (v : List ℕ) → i < n → length v ≡ length ws
-        → cell n (set v (n * x + i) (bitOr (getD v (n * x + i) 0) (wordOf (λ j. t (64 * i + j))))) x′ y ≡ (cell n v x′ y || word i)
-    one i v l e =
-        cell-change n (λ w. bitOr w (wordOf (λ j. t (64 * i + j)))) v (n * x + i) x′ y (inl (omega arith))
-        ∙ ap (λ (b : Bool). cond (eqb (place n x′ y) (n * x + i)) b (cell n v x′ y))
-        (bit-or _ _ _ ∙ ap (λ (b : Bool). cell n v x′ y || b) (bit-word (λ j. t (64 * i + j)) (y % 64) (low y)))
-        ∙ cond-or (eqb (place n x′ y) (n * x + i)) (cell n v x′ y) (t (64 * i + y % 64))
-
-    there : anyB n word ≡ true → (eqb x′ x && t y) ≡ true
-    there e =
-        let a = any-at n word e in
-        let i : ℕ = a .0 in
-        let d = same-place n (a .1) (omega arith) (eqb-true _ _ (and-l (eqb (place n x′ y) (n * x + a .0)) (t (64 * a .0 + y % 64)) (a .2))) in
-        let q : y / 64 ≡ i = d .1 in
-        and-i (eq-eqb x′ x (d .0)) (ap t (omega arith) ∙ and-r (eqb (place n x′ y) (n * x + a .0)) (t (64 * a .0 + y % 64)) (a .2))
-
-    back : (eqb x′ x && t y) ≡ true → anyB n word ≡ true
-    back e =
-        any-i n word (y / 64) (omega arith)
-        (and-i (eq-eqb _ _ (ap (λ (v : ℕ). n * v + y / 64) (eqb-true x′ x (and-l (eqb x′ x) (t y) e)))) (ap t (omega arith) ∙ and-r (eqb x′ x) (t y) e))
+    let d : 64 * (y / 64) + y % 64 ≡ y = omega arith in
+    up-sets _ (λ v. length v ≡ length ws) (λ v. cell n v x′ y) (λ i. eqb (place n x′ y) (n * x + i) && t (64 * i + y % 64)) n (λ i v e. length-set v _ _ ∙ e)
+    (λ i v l e. cell-or n v (n * x + i) _ x′ y (omega arith)
+    ∙ ap (λ (b : Bool). cell n v x′ y || (eqb (place n x′ y) (n * x + i) && b)) (bit-word (λ j. t (64 * i + j)) (y % 64) (low y))) ws refl
+    ∙ ap (λ (b : Bool). cell n ws x′ y || b) (any-place n x x′ (y / 64) (λ i. t (64 * i + y % 64)) (omega arith) ∙ ap (λ (k : ℕ). eqb x′ x && t k) d)
 
 length-step : (n x : ℕ) (t : ℕ → Bool) (v : List ℕ) (b : Bool) → length (cond b (joinRow n x t v) v) ≡ length v
 length-step n x t v true = length-join n x t v
@@ -293,30 +250,14 @@ pub cell-bridged : (n r : ℕ) (from to : ℕ → Bool) (ws : List ℕ) (x y : �
     → cell n (bridged n r from to ws) x y ≡ (cell n ws x y || (ltb x r && (from x && (to y && not (eqb y x)))))
 unfolding bridged
 cell-bridged n r from to ws x y room h =
-    up-sets _ (λ v. length v ≡ length ws) (λ v. cell n v x y) row r (λ z v e. length-step n z _ v (from z) ∙ e) (λ z v l e. one z v (from z) l e) ws refl
-    ∙ ap (λ (b : Bool). cell n ws x y || b) (both-ways (anyB r row) (ltb x r && (from x && (to y && not (eqb y x)))) there back)
+    up-sets _ (λ v. length v ≡ length ws) (λ v. cell n v x y) (λ z. eqb x z && (from z && (to y && not (eqb y z)))) r
+    (λ z v e. length-step n z _ v (from z) ∙ e) (λ z v l e. one z v (from z) l e) ws refl
+    ∙ ap (λ (b : Bool). cell n ws x y || b) (any-here r (λ z. from z && (to y && not (eqb y z))) x)
   where
-    row : ℕ → Bool
-    row z = from z && (eqb x z && (to y && not (eqb y z)))
-
     one : (z : ℕ) (v : List ℕ) (b : Bool) → z < r → length v ≡ length ws
-        → cell n (cond b (joinRow n z (λ y. to y && not (eqb y z)) v) v) x y ≡ (cell n v x y || (b && (eqb x z && (to y && not (eqb y z)))))
+        → cell n (cond b (joinRow n z (λ y. to y && not (eqb y z)) v) v) x y ≡ (cell n v x y || (eqb x z && (b && (to y && not (eqb y z)))))
     one z v true l e = cell-join n z (λ y. to y && not (eqb y z)) v x y (omega (arith, mul-le-mul-left n l)) h
-    one z v false l e = sym (or-false (cell n v x y))
-
-    there : anyB r row ≡ true → (ltb x r && (from x && (to y && not (eqb y x)))) ≡ true
-    there e =
-        let a = any-at r row e in
-        let f = and-l (from (a .0)) (eqb x (a .0) && (to y && not (eqb y (a .0)))) (a .2) in
-        let g = and-r (from (a .0)) (eqb x (a .0) && (to y && not (eqb y (a .0)))) (a .2) in
-        let d : x ≡ a .0 = eqb-true x (a .0) (and-l (eqb x (a .0)) (to y && not (eqb y (a .0))) g) in
-        and-i (lt-ltb x r (rw d (a .1))) (and-i (ap from d ∙ f) (rw d (and-r (eqb x (a .0)) (to y && not (eqb y (a .0))) g)))
-
-    back : (ltb x r && (from x && (to y && not (eqb y x)))) ≡ true → anyB r row ≡ true
-    back e =
-        let g = and-r (ltb x r) (from x && (to y && not (eqb y x))) e in
-        any-i r row x (ltb-true x r (and-l (ltb x r) (from x && (to y && not (eqb y x))) e))
-        (and-i (and-l (from x) (to y && not (eqb y x)) g) (and-i (eq-eqb x x refl) (and-r (from x) (to y && not (eqb y x)) g)))
+    one z v false l e = sym (rw (and-false (eqb x z)) (or-false (cell n v x y)))
 
 -- one row more
 pub bridged-more : (n r : ℕ) (from to : ℕ → Bool) (ws v : List ℕ) → v ≡ bridged n r from to ws
@@ -359,20 +300,12 @@ bridged-none n r from to ws h = up-keeps _ (λ v. v ≡ ws) r (λ x v l e. go x 
     go x v true = join-ext n x _ (λ y. false) v (λ y l. ap (λ (b : Bool). b && not (eqb y x)) (h y l)) ∙ join-none n x v
     go x v false = refl
 
--- ---- what is set stays so, wherever a word is joined: past the end too
-
-or-kept : (n : ℕ) (ws : List ℕ) (p k x y : ℕ) → cell n ws x y ≡ true → cell n (set ws p (bitOr (getD ws p 0) k)) x y ≡ true
-unfolding cell
-or-kept n ws p k x y h = go (either (ltb p (length ws)))
-  where
-    go : (ltb p (length ws) ≡ true) ⊎ (ltb p (length ws) ≡ false) → cell n (set ws p (bitOr (getD ws p 0) k)) x y ≡ true
-    go (inl l) =
-        cell-change n (λ w. bitOr w k) ws p x y (inl (ltb-true _ _ l))
-        ∙ ap (λ (b : Bool). cond (eqb (place n x y) p) b (cell n ws x y)) (bit-or _ _ _)
-        ∙ cond-or (eqb (place n x y) p) (cell n ws x y) (bit k (y % 64))
-        ∙ or-l (cell n ws x y) _ h
-    go (inr l) = rw (set-out ws p (bitOr (getD ws p 0) k) (ltb-false _ _ l)) h
+-- ---- what is set stays so, wherever a column is set: past the end too
 
 pub add-kept : (n : ℕ) (ws : List ℕ) (x y x′ y′ : ℕ) → cell n ws x′ y′ ≡ true → cell n (addCell n ws x y) x′ y′ ≡ true
 unfolding addCell
-add-kept n ws x y x′ y′ h = or-kept n ws (place n x y) (2 ^ (y % 64)) x′ y′ h
+add-kept n ws x y x′ y′ h =
+    ⊎-elim
+    (λ l. cell-or n ws (place n x y) (2 ^ (y % 64)) x′ y′ (ltb-true _ _ l) ∙ or-l (cell n ws x′ y′) _ h)
+    (λ l. rw (set-out ws (place n x y) (bitOr (getD ws (place n x y) 0) (2 ^ (y % 64))) (ltb-false _ _ l)) h)
+    (either (ltb (place n x y) (length ws)))

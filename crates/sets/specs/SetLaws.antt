@@ -1,23 +1,24 @@
 -- Laws of sets: those of words and of rows, at the words that a set has.
 -- Assumes nothing.
 use mathlib.Core.Path.{_≡_, refl, sym, ap, ap₂, _∙_}
-use mathlib.Core.Bool.{Bool, true, false, not, _&&_, _||_, true≢false, and-eq-true-iff}
+use mathlib.Core.Bool.{Bool, true, false, not, cond, _&&_, _||_, and-eq-true-iff}
 use mathlib.Core.List.{List, [], _∷_}
-use Prim.Native.Nat.{ℕ, _+_, _-_, _*_, _%_, _^_, _≤_, _<_}
+use Prim.Native.Nat.{ℕ, _+_, _-_, _*_, _/_, _%_, _^_, _≤_, _<_}
 use native.Mathlib.Nat.{add-zero}
 use native.Mathlib.Omega.{arith}
 use lib.Bits.{bitAnd, bitOr, and-lt, or-lt}
 use lib.Dec.{eqb}
 use lib.ListN.{getD, set}
 use lib.Pow.{pow-lt, ones-sub-lt}
-use borrow.Author.Tests.{leb-true, eqb-true, eq-eqb, ne-eqb, not-true}
+use borrow.Author.Tests.{leb-true}
 use Rattle.bits.specs.Bit.{bit, wordOf, inWords, wordsOf, wordsBy}
-use Rattle.bits.specs.BitLaws.{bit-zero, bit-below, bit-ext, bit-and, bit-or, bit-not, bit-pow, word-is}
+use Rattle.bits.specs.BitLaws.{bit-below, bit-ext, bit-and, bit-or, bit-not, bit-one, word-is}
 use Rattle.bits.specs.WordsLaws.{Fit, fit-none, fit-more, in-zeros, none-in, in-words, words-are, words-ext, in-each}
 use Rattle.bits.specs.All.{allB, anyB, upTo}
-use Rattle.bits.specs.AllLaws.{both-ways, not-so, any-i}
+use Rattle.bits.specs.AllLaws.{none-at}
 use Rattle.rows.specs.Size.{rowSize, numbers}
 use Rattle.rows.specs.Rows.{cell, joinRow}
+use Rattle.rows.specs.RowLaws.{same-place}
 use Rattle.sets.specs.declared.Set.{Set}
 use Rattle.sets.specs.Sets.{Within, words, ofWords, has, setOf, inWord, joined}
 use Rattle.sets.specs.WalkLaws.{in-some, someOf, some-ext, some-or, in-row}
@@ -73,9 +74,9 @@ pub empty-is : (s : Set) → Fit (words s) → (eqb (s .low) 0 && eqb (s .high) 
 unfolding has allB
 empty-is s f = none-in rowSize (words s) f
 
--- no number is in a set that is empty
-pub empty-at : (s : Set) → not (anyB numbers (has s)) ≡ true → (y : ℕ) → y < numbers → has s y ≡ false
-empty-at s h y l = not-so _ (λ t. true≢false (sym (any-i numbers (has s) y l t) ∙ not-true _ h))
+-- no number passes whose set is empty
+pub empty-at : (p : ℕ → Bool) {s : Set} → s ≡ setOf p → anyB numbers (has s) ≡ false → (y : ℕ) → y < numbers → p y ≡ false
+empty-at p {s} e h y l = sym (in-set p e y l) ∙ none-at numbers (has s) h y l
 
 -- an operation on the words that acts on each bit
 module _ (op : Bool → Bool → Bool) (g : ℕ → ℕ → ℕ) (bit-g : (a b i : ℕ) → b < 2 ^ 64 → i < 64 → bit (g a b) i ≡ op (bit a i) (bit b i))
@@ -87,27 +88,19 @@ module _ (op : Bool → Bool → Bool) (g : ℕ → ℕ → ℕ) (bit-g : (a b i
 
 -- ---- the set of one number
 
--- the word that has x, and a word that has it not
-one-here : (x k : ℕ) → k ≤ x → x < k + 64 → 2 ^ (x - k) ≡ wordOf (λ i. eqb (k + i) x)
-one-here x k l h =
-    word-is _ _ (pow-lt {j = 64} (omega arith))
-    (λ i b. bit-pow (x - k) i
-    ∙ both-ways (eqb i (x - k)) (eqb (k + i) x)
-    (λ e. let d : i ≡ x - k = eqb-true i (x - k) e in eq-eqb (k + i) x (omega arith))
-    (λ e. let d : k + i ≡ x = eqb-true (k + i) x e in eq-eqb i (x - k) (omega arith)))
+-- the word that has x has its bit, and every other is 0
+one-word : (k x : ℕ) → cond (eqb k (x / 64)) (2 ^ (x % 64)) 0 ≡ wordOf (λ i. eqb (64 * k + i) x)
+one-word k x =
+    let d : x ≡ 64 * (x / 64) + x % 64 = omega arith in
+    word-is _ _ (below (eqb k (x / 64)))
+    (λ i b. bit-one (eqb k (x / 64)) (x % 64) i ∙ sym (ap (eqb (64 * k + i)) d ∙ same-place 64 (x / 64) (x % 64) k i (omega arith) b))
+  where
+    below : (b : Bool) → cond b (2 ^ (x % 64)) 0 < 2 ^ 64
+    below true = pow-lt {j = 64} (omega arith)
+    below false = omega arith
 
-one-elsewhere : (x k : ℕ) → ((i : ℕ) → i < 64 → k + i ≡ x → ⊥) → 0 ≡ wordOf (λ i. eqb (k + i) x)
-one-elsewhere x k n = word-is _ 0 (omega arith) (λ i b. bit-zero i ∙ sym (ne-eqb (k + i) x (n i b)))
-
-pub only-low : (x : ℕ) → x < 64 → pair (2 ^ (x % 64)) 0 ≡ setOf (λ y. eqb y x)
-only-low x l =
-    let e : x % 64 ≡ x - 0 = omega arith in
-    set-pair (λ y. eqb y x) (ap (λ (k : ℕ). 2 ^ k) e ∙ one-here x 0 (omega arith) (omega arith)) (one-elsewhere x 64 (λ i b d. omega arith))
-
-pub only-high : (x : ℕ) → 64 ≤ x → x < numbers → pair 0 (2 ^ (x % 64)) ≡ setOf (λ y. eqb y x)
-only-high x l h =
-    let e : x % 64 ≡ x - 64 = omega arith in
-    set-pair (λ y. eqb y x) (one-elsewhere x 0 (λ i b d. omega arith)) (ap (λ (k : ℕ). 2 ^ k) e ∙ one-here x 64 l (omega arith))
+pub only-is : (x k : ℕ) → x / 64 ≡ k → pair (cond (eqb 0 k) (2 ^ (x % 64)) 0) (cond (eqb 1 k) (2 ^ (x % 64)) 0) ≡ setOf (λ y. eqb y x)
+only-is x k e = rw (← e) (set-pair (λ y. eqb y x) (one-word 0 x) (one-word 1 x))
 
 -- ---- rows as sets
 
@@ -125,7 +118,7 @@ join-not a w h k =
     both false q = refl
 
 -- the words a and b joined at the places k and l
-abbrev pub stored : List ℕ → ℕ → ℕ → ℕ → ℕ → List ℕ
+abbrev stored : List ℕ → ℕ → ℕ → ℕ → ℕ → List ℕ
 stored ws k l a b = let v = set ws k (bitOr (getD ws k 0) a) in set v l (bitOr (getD v l 0) b)
 
 module _ (ws : List ℕ) where

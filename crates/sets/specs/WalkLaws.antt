@@ -15,7 +15,7 @@ use Rattle.bits.specs.Bit.{bit, inWords, wordsBy}
 use Rattle.bits.specs.BitLaws.{bit-zero, bit-below, bit-rest, trailing-set}
 use Rattle.bits.specs.WordsLaws.{Fit, in-by}
 use Rattle.bits.specs.All.{anyB}
-use Rattle.bits.specs.AllLaws.{either, both-ways, and-i, and-false, and-true, or-false, any-i, any-at, any-ext, any-or, any-one, any-false}
+use Rattle.bits.specs.AllLaws.{either, both-ways, eqb-sym, and-i, and-false, and-true, or-false, any-i, any-at, any-ext, any-or, any-one, any-false}
 use Rattle.rows.specs.Rows.{cell}
 use Rattle.sets.specs.Sets.{inWord, joined}
 
@@ -86,7 +86,7 @@ module _ (m : ℕ) (p : ℕ → Bool) where
   some-next a w k x h l b e =
       let r = inWord (bitAnd w (w - 1)) k in
       ap (λ (b : Bool). (a || b) || someOf r) (sym (any-one m p x b))
-      ∙ some-or a (λ y. eqb y x) r ∙ ap (λ (b : Bool). a || b) (some-ext (λ y. eqb y x || r y) (inWord w k) (λ y b. rw e (sym (in-next w k y h l))))
+      ∙ some-or a (λ y. eqb x y) r ∙ ap (λ (b : Bool). a || b) (some-ext (λ y. eqb x y || r y) (inWord w k) (λ y b. rw (eqb-sym x y, e) (sym (in-next w k y h l))))
 
   pub some-end : (a : Bool) (w k : ℕ) → w ≡ 0 → (a || someOf (inWord w k)) ≡ a
   some-end a w k e = ap (λ (b : Bool). a || b) (some-ext (inWord w k) (λ y. false) (λ y l. rw e (in-none k y)) ∙ any-false m) ∙ or-false a
