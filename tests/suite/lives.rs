@@ -144,7 +144,7 @@ fn order(rng: &mut Rng) -> Order {
 const IN_LISTS: [(&str, u64); 12] = [
     ("deletion that bridges", 4000),
     ("deletion that bridges from a driver without a flow", 2000),
-    ("deletion that bridges bridges", 50),
+    ("deletion that bridges where one stood", 50),
     ("deletion refused for what is fed", 1500),
     ("new object of a number used again", 5000),
     ("new task of a number used again", 1000),
@@ -278,7 +278,7 @@ impl Watched {
         let from_driver = by_right && bridged.iter().any(|&(from, _)| from == driver);
         self.count("deletion that bridges", !bridged.is_empty());
         self.count("deletion that bridges from a driver without a flow", from_driver);
-        self.count("deletion that bridges bridges", bridges && !bridged.is_empty());
+        self.count("deletion that bridges where one stood", bridges && !bridged.is_empty());
     }
 
     fn count_spread(&mut self, before: &State) {
