@@ -44,7 +44,7 @@ pub data Trail (h : History) : Life → Type 0 where
   from : (a : Life) → List·Memᴰ a (h .named) → Trail h a
   onward : (a b : Life) → Trail h a → h .joined a b ≡ true → Trail h b
 
--- a is that life of its number, where `ended` tells how many are over
+-- a is the life that its number has now or, if it is free, its next one, where `ended` tells how many are over
 unfoldable pub isNow : (ℕ → ℕ) → Life → Bool
 isNow ended a = eqb (a .before) (ended (a .number))
 
@@ -58,7 +58,8 @@ pub data Counting : Type 0 where
   direct : Counting
 
 module _ {size : Size} where
-  -- the flow from u to v is none of bridging's, if the call, which found m, has recorded it: of a deletion only document 01's is, from its asker to its marked driver
+  -- a flow from u to v that the call recorded, which found m, is its own and none of bridging's. A deletion has one, document 01's, from its asker to its marked driver; all
+  -- that another call records is its own
   abbrev pub ownFlow : Call → MemoryOf size → ℕ → ℕ → Bool
   ownFlow (Delete e d x k) m u v = marked m d && (eqb u e && eqb v d)
   ownFlow Start m u v = true

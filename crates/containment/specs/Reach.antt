@@ -29,7 +29,7 @@ module _ {size : Size} (m : MemoryOf size) (x y : ℕ) where
   unfolding objectOf
   object-own o d = and-i o (eq-eqb _ _ d)
 
-  -- a flow of any kind b, or the driver
+  -- the two ways told by truth values: b, which only a flow makes true, or the driver
   pub feeds-by : (b : Bool) → (b ≡ true → hasFlow m x y ≡ true) → (b || objectOf m x y) ≡ true → Feeds m x y
   feeds-by b f h = ⊎-elim (λ e. inl (f e)) (λ e. inr (own-object e)) (or-cases b (objectOf m x y) h)
 
