@@ -6,6 +6,7 @@ pub mod History
 pub mod HistoryTrials
 pub mod TrailClaims
 pub mod TallyClaims
+pub mod ToldClaims
 pub mod Roots
 pub mod Tables
 pub mod Invariant
@@ -22,6 +23,7 @@ pub mod PlaceProof
 pub mod Witness
 pub mod LoadProof
 pub mod TallyProof
+pub mod ToldProof
 pub mod Reach
 pub mod Bypass
 pub mod Carries

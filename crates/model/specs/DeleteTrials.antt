@@ -8,7 +8,7 @@ use lib.ListN.{replicate}
 use Rattle.rows.specs.Rows.{addCell}
 use Rattle.rows.specs.Size.{present, rowSize}
 use Rattle.records.specs.Records.{setRecord, root, within, containerByte, spareByte}
-use Rattle.model.specs.Verdicts.{row-filled, row-feeding}
+use Rattle.model.specs.Verdicts.{row-filled}
 use Rattle.model.specs.State.{Memory, memory, flowRow, writeRow}
 use Rattle.model.specs.Effects.{mark-outside, effect, effects}
 use Rattle.model.specs.Events.{verdictOf, feedsUnmarked, delete, fed}
@@ -95,12 +95,17 @@ scratch bs file flows =
 unfoldable pub filling : Memory → Memory
 filling m = memory (setRecord (m .bytes) 7 2 0 0 0 (containerByte (within 4) present) 0 (spareByte (within 4) present)) (m .words)
 
--- row 16, and row 12 before it, on no more bytes than are needed
-abbrev pub LastRows : Type 0
-LastRows =
-    let m = scratch (replicate 64 0) 1 (4 ↣ 2 ∷ []) in
-    (verdictOf (delete Q m 1 0 4 3) ≡ row-feeding) × (verdictOf (delete Q (filling m) 1 0 4 3) ≡ row-filled)
+-- row 12 comes before row 16, on no more bytes than are needed
+abbrev pub FilledFirst : Type 0
+FilledFirst = verdictOf (delete Q (filling (scratch (replicate 64 0) 1 (4 ↣ 2 ∷ []))) 1 0 4 3) ≡ row-filled
 
--- a whole call, granted
+-- for whole calls: 1 fed the file and it fed 2; the file has the marks given
+unfoldable pub withFile : ℕ → Memory
+withFile file = scratch (fresh .bytes) file (1 ↣ 4 ∷ 4 ↣ 2 ∷ [])
+
 unfoldable pub deletions : List Trial
-deletions = trial Q (scratch (fresh .bytes) 0 (1 ↣ 4 ∷ 4 ↣ 2 ∷ [])) (Delete 1 0 4 3) 0 (1 ↣ 2 ∷ 0 ↣ 2 ∷ []) ∷ []
+deletions =
+    trial Q (withFile 0) (Delete 1 0 4 3) 0 (1 ↣ 2 ∷ 0 ↣ 2 ∷ [])
+    -- refused: the marked file feeds 2, which is not marked
+    ∷ trial Q (withFile 1) (Delete 1 0 4 3) 16 (1 ↣ 4 ∷ 4 ↣ 2 ∷ [])
+    ∷ []

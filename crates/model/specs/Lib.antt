@@ -9,6 +9,7 @@ pub mod Spread
 pub mod Monitor
 pub mod Load
 pub mod Tallies
+pub mod Told
 pub mod WalkLaws
 pub mod InsideLaws
 pub mod MarkLaws
@@ -26,5 +27,6 @@ pub mod EffectLaws
 pub mod SoundLaws
 pub mod LoadLaws
 pub mod TallyLaws
+pub mod ToldLaws
 pub mod ReadyLaws
 pub mod RiskLaws

@@ -8,7 +8,7 @@ use Prim.Native.Nat.{ℕ, _<_}
 use lib.Dec.{eqb}
 use lib.ListN.{length, length-set, length-replicate}
 use borrow.Author.Tests.{eqb-true, eq-eqb, ne-eqb}
-use Rattle.bits.specs.AllLaws.{either, not-so, and-l}
+use Rattle.bits.specs.AllLaws.{either, not-so, and-l, and-r}
 use Rattle.rows.specs.Size.{Size, numbersOf, lentWords}
 use Rattle.rows.specs.RowLaws.{some-number}
 use Rattle.levels.specs.declared.Order.{Order}
@@ -63,7 +63,12 @@ unfolding refusedUnless refusal pastOrder
 past-state true m out h = refl
 past-state false m out h = absurd (false≢true h)
 
--- past row 2 the lengths are right
+-- past row 2 the bytes are sound, but for a start
+pub past-sound : {size : Size} (o : Order) (m : MemoryOf size) (out : OutcomeOf size) → pastOrder (fitted o m out .verdict) ≡ true → soundOf size o (m .bytes) ≡ true
+unfolding fitted
+past-sound {size} o m out h = and-r (lengthsFit m) (soundOf size o (m .bytes)) (past-state (lengthsFit m && soundOf size o (m .bytes)) m _ h)
+
+-- and the lengths are right
 pub past-lengths : {size : Size} (o : Order) (m : MemoryOf size) (c : Call) → pastOrder (perform o m c .verdict) ≡ true → lengthsFit m ≡ true
 unfolding start fitted
 past-lengths {size} o m c =

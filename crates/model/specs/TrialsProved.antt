@@ -22,7 +22,7 @@ use Rattle.model.specs.Effects.{objectOf, markOne, markWhere, feeder, fe
 use Rattle.model.specs.Events.{Outcome, unless, firstFailing, verdictOf, outcome, feedsUnmarked, read, move, delete, invoke, fed}
 use Rattle.model.specs.Monitor.{perform, fitted, refusedUnless, refusal, start, started}
 use Rattle.model.specs.MoveTrials.{holding, drawers, moves}
-use Rattle.model.specs.DeleteTrials.{filed, recording, shelf, deletedBy, Bridges, Feeding, leads, TrailKept, scratch, filling, LastRows, deletions}
+use Rattle.model.specs.DeleteTrials.{filed, recording, shelf, deletedBy, Bridges, Feeding, leads, TrailKept, scratch, filling, FilledFirst, withFile, deletions}
 use Rattle.model.specs.Inside.{walk, inside}
 use Rattle.model.specs.Trials.{Pair, Trial, Holds, AllHold, listed, orderOf, Q, fresh, threeThings, twoTasks, trials}
 
@@ -123,12 +123,12 @@ pub trail-kept : TrailKept
 unfolding leads fed markOne markWhere deletedBy delete effects effect bridged joinRow clearThing clearColumn clearRow cutCell anyB upTo shelf filed recording field setField setRecord isObject wordOf bit hasFlow cell inUse object marked objectOf feeder fedBy addCell
 trail-kept = (refl, refl, refl)
 
-pub last-rows : LastRows
+pub filled-first : FilledFirst
 unfolding scratch filling filed recording Q orderOf fresh started isTask isObject field setField setRecord atOrBelow bit wordOf verdictOf firstFailing unless anyB feedsUnmarked delete liesWithin hasWrite hasFlow cell inUse task object marked fedBy addCell
-last-rows = (refl, refl)
+filled-first = refl
 
 deletions-computed : allPass deletions ≡ true
-unfolding allPass passes agrees equalUpTo named flowWords allB anyB upTo deletions scratch filed recording Q orderOf fresh started fitted refusedUnless refusal lengthsFit soundOf coreRecord soundRecordOf freeRecord taskRecord objectRecordOf isTask isObject field setField setRecord orderPasses countFits reflexive transitive antisymmetric belowTop clearOutside atOrBelow bit wordOf outcome verdictOf firstFailing unless feedsUnmarked delete liesWithin hasWrite hasFlow cell inUse task object marked objectOf feeder fedBy effects effect bridged joinRow clearThing clearColumn clearRow cutCell addCell
+unfolding allPass passes agrees equalUpTo named flowWords allB anyB upTo deletions withFile scratch filed recording Q orderOf fresh started fitted refusedUnless refusal lengthsFit soundOf coreRecord soundRecordOf freeRecord taskRecord objectRecordOf isTask isObject field setField setRecord orderPasses countFits reflexive transitive antisymmetric belowTop clearOutside atOrBelow bit wordOf outcome verdictOf firstFailing unless feedsUnmarked delete liesWithin hasWrite hasFlow cell inUse task object marked objectOf feeder fedBy effects effect bridged joinRow clearThing clearColumn clearRow cutCell addCell
 deletions-computed = refl
 
 pub deletions-hold : AllHold deletions

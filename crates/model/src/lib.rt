@@ -35,11 +35,12 @@ pub enum Call {
     Spread,
 }
 
-// What a call answers: a verdict of the table, and the rounds of a spread.
+// What a call answers: a verdict of the table, the rounds of a spread, and the word that the driver is told.
 #[repr(C)]
 pub struct Answer {
     pub verdict: u8,
     pub rounds: u8,
+    pub told: u8,
 }
 
 // A tally record: how many calls were granted, slipped and refused.
@@ -99,3 +100,10 @@ pub const FORM: u8 = 14;
 pub const DEEP: u8 = 15;
 
 pub const FEEDING: u8 = 16;
+
+// The told word.
+pub const NO_WORD: u8 = 0;
+
+pub const TOLD_YES: u8 = 1;
+
+pub const TOLD_NO: u8 = 2;

@@ -24,6 +24,7 @@ use Rattle.model.specs.LoadLaws.{past-rows}
 use Rattle.model.specs.ReadyLaws.{ready-sound}
 use Rattle.model.specs.Tallies.{isStart, asker, countedOn}
 use Rattle.model.specs.TallyLaws.{not-start}
+use Rattle.model.specs.Told.{no-word}
 use Rattle.tallies.specs.declared.Entry.{Entry}
 use Rattle.tallies.specs.Entries.{InList, Enters}
 use Rattle.monitor.specs.Entered.{CallEntry, LoadEntry}
@@ -31,7 +32,7 @@ use Rattle.monitor.proofs.Rows.{passed, stopped, no-rounds, unfit, diso
 
 -- what `on_zero` says of its entry
 abbrev pub OnZero : Entry → ℕ → Type 0
-OnZero r v = (r .answer .verdict ≡ v) × (r .answer .rounds ≡ 0) × Enters r 0 (eqb v granted) × InList r
+OnZero r v = (r .answer .verdict ≡ v) × (r .answer .rounds ≡ 0) × Enters r 0 (eqb v granted) × InList r × (r .answer .told ≡ no-word)
 
 either-way : (y : Bool) (n : ℕ) → cond y n n ≡ n
 either-way true n = refl
@@ -44,7 +45,7 @@ start-on-zero m v = either-way (pastOrder v) 0
 -- on record 0, where the model says so
 on-zero : (m : Memory) (call : Call) {out : Outcome} {r : Entry} {v : ℕ} {bs ws : List ℕ} → OnZero r v → countedOn m call v ≡ 0 → (isStart call && eqb v granted) ≡ eqb v granted → left v 0 bs ws ≡ out → CallEntry m call out r bs ws
 on-zero m call z i a d =
-    (no-rounds (z .0, z .1) d, (z .2 .0 ∙ sym (ap (countedOn m call) (z .0) ∙ i), z .2 .1 ∙ sym (ap (λ n. isStart call && eqb n granted) (z .0) ∙ a)), z .3)
+    (no-rounds (z .0, z .1, z .4) d, (z .2 .0 ∙ sym (ap (countedOn m call) (z .0) ∙ i), z .2 .1 ∙ sym (ap (λ n. isStart call && eqb n granted) (z .0) ∙ a)), z .3)
 
 module _ (o : Order) (m : Memory) (call : Call) where
   pub start-entry : call ≡ Start → {r : Entry} {v : ℕ} {bs ws : List ℕ} → OnZero r v → left v 0 bs ws ≡ start o m → CallEntry m call (perform o m call) r bs ws
@@ -61,10 +62,10 @@ module _ (o : Order) (m : Memory) (call : Call) where
     order-entry f p z = on-zero m call z refl (and-false (isStart call)) (sym (disordered o m call later f p))
 
     -- past rows 2 and 3: on the asker's
-    pub event-entry : Ready o (m .bytes) (m .words) → {a : Answer} {k : ℕ} {bs ws : List ℕ} → left (a .verdict) (a .rounds) bs ws ≡ perform o m call → k ≡ asker m call → k < numbers
+    pub event-entry : Ready o (m .bytes) (m .words) → (a : Answer) {k : ℕ} {bs ws : List ℕ} → left (a .verdict) (a .rounds) bs ws ≡ perform o m call → k ≡ asker m call → k < numbers
         → CallEntry m call (perform o m call) (record { answer = a; number = k; anew = false }) bs ws
     unfolding countedOn
-    event-entry r {a} {k} d e l =
+    event-entry r a {k} d e l =
         let past = past-rows o (r .2) m (ready-sound o m r) call in
         let v = ap (λ (out : Outcome). out .verdict) d in
         (d, (e ∙ sym (ap (λ b. cond b (asker m call) 0) (ap pastOrder v ∙ past)), sym (ap (λ b. b && eqb (a .verdict) granted) (not-start call later))), l)
@@ -85,7 +86,7 @@ module _ (m : Memory) (lent : ℕ) (out : Outcome) where
 
 -- a load, by what it came to
 pub load-entry : {out : Outcome} {r : Entry} {v : ℕ} {bs ws : List ℕ} → OnZero r v → left v 0 bs ws ≡ out → LoadEntry out r bs ws
-load-entry z d = (no-rounds (z .0, z .1) d, (z .2 .0, z .2 .1 ∙ sym (ap (λ n. eqb n granted) (z .0))), z .3)
+load-entry z d = (no-rounds (z .0, z .1, z .4) d, (z .2 .0, z .2 .1 ∙ sym (ap (λ n. eqb n granted) (z .0))), z .3, z .4)
 
 -- the length as it was counted
 pub counted-length : (m : Memory) (out : Outcome) {k n : ℕ} → k ≡ n → refusedUnless (eqb k numbers) row-state m out ≡ refusedUnless (eqb n numbers) row-state m out

@@ -19,6 +19,7 @@ use Rattle.model.specs.State.{Memory, lengthsFit}
 use Rattle.model.specs.Ready.{Ready}
 use Rattle.model.specs.Events.{Outcome, left}
 use Rattle.model.specs.Monitor.{perform, fitted, refusal, refusedUnless}
+use Rattle.model.specs.Told.{no-word}
 use Rattle.model.specs.ReadyLaws.{sound-ready, through}
 use Rattle.model.proofs.Call.{the-type as the-call}
 use Rattle.model.specs.declared.Call.{Call}
@@ -67,9 +68,9 @@ ready o m f p =
     let both = not-false (lengthsFit m && sound o (m .bytes)) f in
     sound-ready o m (not-false _ p) (and-l (lengthsFit m) (sound o (m .bytes)) both, and-r (lengthsFit m) (sound o (m .bytes)) both)
 
--- a verdict of no rounds
-pub no-rounds : {out : Outcome} {v w n : ℕ} {bs ws : List ℕ} → (w ≡ v) × (n ≡ 0) → left v 0 bs ws ≡ out → left w n bs ws ≡ out
-no-rounds {out} {v} {w} {n} {bs} {ws} p d = (λ i. left (p .0 i) (p .1 i) bs ws) ∙ d
+-- a verdict of no rounds, before the driver is told
+pub no-rounds : {out : Outcome} {v w n t : ℕ} {bs ws : List ℕ} → (w ≡ v) × (n ≡ 0) × (t ≡ no-word) → left v 0 bs ws ≡ out → left w n bs ws ≡ out
+no-rounds {out} {v} {w} {n} {t} {bs} {ws} p d = (λ i. left (p .0 i) (p .1 i) bs ws) ∙ d
 
 -- what a call leaves is its event's outcome, at the constructor that the call is
 pub answered : (o : Order) (m : Memory) {call k : Call} {out left : Outcome} → Ready o (m .bytes) (m .words) → call ≡ k → perform o m k ≡ fitted o m out → left ≡ out → left ≡ perform o m call

@@ -117,11 +117,11 @@ unit-typed w e = subst (λ (z : Val). Holds (hasTy tyUnit z) × WT z) (sym (ap o
 abbrev pub Entered : {M : Type 1} (𝓤 : URA M) (H : Heap 𝓤) (A : Atoms 𝓤) (mem : Memory → SProp 𝓤) (run : Routine → Fun 𝓤) → Contract 𝓤
 Entered 𝓤 H A mem run = tripleOf 𝓤 H A entering.signature (entering.spec 𝓤 H A mem run)
 
--- ---- the walk: `more` are the tokens after the list's, mo and mk the machine values of the order and of the last parameter, `rest` what these two own, Did what the judging function says of its entry and of the last bytes and words, and Told what the exported one says with the last list
+-- ---- the walk: `more` are the tokens after the list's, mo and mk the machine values of the order and of the last parameter, `rest` what these two own, Did what the judging function says of its entry and of the last bytes and words, and Says what the exported one says with the last list
 
 module _ {M : Type 1} (𝓤 : URA M) (H : Heap 𝓤) (A : Atoms 𝓤) (W : Given 𝓤 H A) (mem : Memory → SProp 𝓤) (run : Routine → Fun 𝓤) (κ₀ κ₁ κ₂ : Lft) (q₀ q₁ q₂ : Share) (more : Item 𝓤)
-    (x₀ x₁ : RefT (List ℕ)) (x₂ : RefT (List Tally)) (mo mk : Val) (rest : Fml) (Did : Entry → List ℕ → List ℕ → Type 0) (Told : Entry → List ℕ → List ℕ → List Tally → Type 0)
-    (fits : (r : Entry) (xs ys : List ℕ) → Did r xs ys → InList r) (sums : (r : Entry) (xs ys : List ℕ) (zs : List Tally) → Did r xs ys → zs ≡ enteredAs r (x₂ .now) → Told r xs ys zs) where
+    (x₀ x₁ : RefT (List ℕ)) (x₂ : RefT (List Tally)) (mo mk : Val) (rest : Fml) (Did : Entry → List ℕ → List ℕ → Type 0) (Says : Entry → List ℕ → List ℕ → List Tally → Type 0)
+    (fits : (r : Entry) (xs ys : List ℕ) → Did r xs ys → InList r) (sums : (r : Entry) (xs ys : List ℕ) (zs : List Tally) → Did r xs ys → zs ≡ enteredAs r (x₂ .now) → Says r xs ys zs) where
   abbrev s₀ : Val
   s₀ = sliceVal (x₀ .ptr) (length (x₀ .now))
 
@@ -199,12 +199,12 @@ module _ {M : Type 1} (𝓤 : URA M) (H : Heap 𝓤) (A : Atoms 𝓤) (W : Given
       (all-toks
       ⊛ ‵ (fsep (finally u8 (x₀ .name) xs) (fsep (finally u64 (x₁ .name) ys) (fsep (finally T.the-row (x₂ .name) zs) (fsep ftrue (fsep ftrue ftrue)))))
       ⊛ ‵ (N.the-row .own (r .answer) (mn (r .answer) ∷ [])))
-      ⊛ raw (fact 𝓤 (Told r xs ys zs)))
+      ⊛ raw (fact 𝓤 (Says r xs ys zs)))
 
   abbrev closed : List ℕ → List ℕ → List Tally → List (Item 𝓤)
   closed xs ys zs = (‵ (flft κ₂ q₂) ⊛ ‵ ftrue) ∷ toks ∷ ‵ (finally u8 (x₀ .name) xs) ∷ ‵ (finally u64 (x₁ .name) ys) ∷ ‵ (finally T.the-row (x₂ .name) zs) ∷ []
 
-  leaves : (r : Entry) (xs ys : List ℕ) (zs : List Tally) → Told r xs ys zs → Is N.the-row (r .answer) (mn (r .answer) ∷ []) → ent 𝓤 (⋆ 𝓤 H A (closed xs ys zs)) (ending r xs ys zs)
+  leaves : (r : Entry) (xs ys : List ℕ) (zs : List Tally) → Says r xs ys zs → Is N.the-row (r .answer) (mn (r .answer) ∷ []) → ent 𝓤 (⋆ 𝓤 H A (closed xs ys zs)) (ending r xs ys zs)
   leaves r xs ys zs e n-is =
       qed W (closed xs ys zs) ∵ says ! e $
       -- the tokens

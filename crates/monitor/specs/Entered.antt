@@ -10,6 +10,7 @@ use Rattle.model.specs.Verdicts.{granted}
 use Rattle.model.specs.State.{Memory}
 use Rattle.model.specs.Events.{Outcome, left}
 use Rattle.model.specs.Tallies.{isStart, countedOn}
+use Rattle.model.specs.Told.{no-word, told}
 use Rattle.tallies.specs.declared.Entry.{Entry}
 use Rattle.tallies.specs.Entries.{InList, Enters}
 
@@ -18,6 +19,16 @@ abbrev pub CallEntry : Memory → Call → Outcome → Entry → List ℕ → Li
 CallEntry m c out r bs ws =
     (left (r .answer .verdict) (r .answer .rounds) bs ws ≡ out) × Enters r (countedOn m c (r .answer .verdict)) (isStart c && eqb (r .answer .verdict) granted) × InList r
 
--- of a load: it counts on record 0, and a granted one begins the list anew
+-- with the call's told word
+abbrev pub ToldEntry : Memory → Call → Outcome → Entry → List ℕ → List ℕ → Type 0
+ToldEntry m c out r bs ws = CallEntry m c out r bs ws × (r .answer .told ≡ told c (r .answer .verdict))
+
+-- an entry, given a word
+abbrev pub withWord : ℕ → Entry → Entry
+withWord word r =
+    record { answer = record { verdict = r .answer .verdict; rounds = r .answer .rounds; told = word }; number = r .number; anew = r .anew }
+
+-- of a load, which has no word: it counts on record 0, and a granted one begins the list anew
 abbrev pub LoadEntry : Outcome → Entry → List ℕ → List ℕ → Type 0
-LoadEntry out r bs ws = (left (r .answer .verdict) (r .answer .rounds) bs ws ≡ out) × Enters r 0 (eqb (r .answer .verdict) granted) × InList r
+LoadEntry out r bs ws =
+    (left (r .answer .verdict) (r .answer .rounds) bs ws ≡ out) × Enters r 0 (eqb (r .answer .verdict) granted) × InList r × (r .answer .told ≡ no-word)

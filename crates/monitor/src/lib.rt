@@ -12,18 +12,20 @@ ghost use Rattle.model.specs.Events.{left};
 ghost use Rattle.model.specs.Monitor as model;
 ghost use Rattle.model.specs.Monitor.{refusedUnless, started, nextMarked};
 ghost use Rattle.model.specs.Tallies.{tallied, performed, loaded};
+ghost use Rattle.model.specs.Told.{no-word, told};
 ghost use Rattle.model.specs.Load as loads;
 ghost use Rattle.model.specs.Load.{inTurn, whole, layoutChecked};
 ghost use Rattle.loading.specs.Calls.{callsIn};
 ghost use Rattle.tallies.specs.Entries.{InList, Enters};
 ghost use Rattle.tallies.specs.Counts.{recordsIn, leftOver};
 ghost use Rattle.monitor.specs.Request.{callOf};
-ghost use Rattle.monitor.specs.Entered.{CallEntry, LoadEntry};
+ghost use Rattle.monitor.specs.Entered.{CallEntry, ToldEntry, LoadEntry, withWord};
 use layout::Text;
 use levels::Order;
 use model::Answer;
 use model::Call;
 use model::Checked;
+use model::NO_WORD;
 use model::Report;
 use model::Tally;
 use tallies::Entry;
@@ -113,16 +115,20 @@ fn fits(bytes: &[u8], words: &[u64], order: Order) -> bool
     }
 }
 
-// A verdict without rounds, as every call but a granted spread has it.
+// A verdict without rounds, as every call but a granted spread has it. No word yet: `tell` gives it last, in one place.
 fn plain(verdict: u8) -> Answer
-    ensures { λ r. ⌜ (r .verdict ≡ verdict) × (r .rounds ≡ 0) ⌝ }
+    ensures { λ r. ⌜ (r .verdict ≡ verdict) × (r .rounds ≡ 0) × (r .told ≡ no-word) ⌝ }
 {
-    Answer { verdict, rounds: 0 }
+    Answer {
+        verdict,
+        rounds: 0,
+        told: NO_WORD,
+    }
 }
 
 // The entry on record 0, of a start, of a load, and of a call refused with 2 or 3: a granted one zeroes the list.
 fn on_zero(verdict: u8) -> Entry
-    ensures { λ r. ⌜ (r .answer .verdict ≡ verdict) × (r .answer .rounds ≡ 0) × Enters r 0 (eqb verdict granted) × InList r ⌝ }
+    ensures { λ r. ⌜ (r .answer .verdict ≡ verdict) × (r .answer .rounds ≡ 0) × Enters r 0 (eqb verdict granted) × InList r × (r .answer .told ≡ no-word) ⌝ }
 {
     let answer = plain(verdict);
     Entry {
@@ -173,6 +179,7 @@ fn event(bytes: &mut [u8], words: &mut [u64], order: Order, call: Call) -> Answe
         Call::Spread => Answer {
             verdict: model::GRANTED,
             rounds: marking::spread(bytes, words, order),
+            told: NO_WORD,
         },
     }
 }
@@ -200,13 +207,40 @@ fn carry_out(bytes: &mut [u8], words: &mut [u64], order: Order, call: Call) -> E
 }
 
 // The same for a list of so many records: another length is refused with 2.
-fn call_lent(bytes: &mut [u8], words: &mut [u64], lent: usize, order: Order, call: Call) -> Entry
+fn judge(bytes: &mut [u8], words: &mut [u64], lent: usize, order: Order, call: Call) -> Entry
     ensures { λ r. ⌜ CallEntry (memory (now (bytes .entry)) (now (words .entry))) call (refusedUnless (eqb lent numbers) row-state (memory (now (bytes .entry)) (now (words .entry))) (model.perform order (memory (now (bytes .entry)) (now (words .entry))) call)) r (now (bytes .exit)) (now (words .exit)) ⌝ }
 {
     if lent != records::RECORDS {
         return on_zero(model::STATE);
     }
     carry_out(bytes, words, order, call)
+}
+
+// The entry with the word that the driver is told.
+fn tell(call: Call, entry: Entry) -> Entry
+    ensures { λ r. ⌜ r ≡ withWord (told call (entry .answer .verdict)) entry ⌝ }
+{
+    let verdict = entry.answer.verdict;
+    let rounds = entry.answer.rounds;
+    let told = telling::told(call, verdict);
+    let answer = Answer {
+        verdict,
+        rounds,
+        told,
+    };
+    Entry {
+        answer,
+        number: entry.number,
+        anew: entry.anew,
+    }
+}
+
+// A call, judged and told.
+fn call_lent(bytes: &mut [u8], words: &mut [u64], lent: usize, order: Order, call: Call) -> Entry
+    ensures { λ r. ⌜ ToldEntry (memory (now (bytes .entry)) (now (words .entry))) call (refusedUnless (eqb lent numbers) row-state (memory (now (bytes .entry)) (now (words .entry))) (model.perform order (memory (now (bytes .entry)) (now (words .entry))) call)) r (now (bytes .exit)) (now (words .exit)) ⌝ }
+{
+    let entry = judge(bytes, words, lent, order, call);
+    tell(call, entry)
 }
 
 // A whole call, as programs in Rattle make it: the list is lent as plain numbers.
@@ -218,6 +252,7 @@ pub fn perform(
     call: Call,
 ) -> Answer
     ensures { λ r. ⌜ (tallied (left (r .verdict) (r .rounds) (now (bytes .exit)) (now (words .exit))) (recordsIn (now (counts .exit))) ≡ performed order (memory (now (bytes .entry)) (now (words .entry))) (recordsIn (now (counts .entry))) call)
+        × (r .told ≡ told call (r .verdict))
         × (leftOver (now (counts .exit)) ≡ leftOver (now (counts .entry))) ⌝ }
 {
     let lent = tallies::records_in(counts);
@@ -234,7 +269,7 @@ fn request_lent(
     order: Order,
     request: Request,
 ) -> Entry
-    ensures { λ r. ⌜ CallEntry (memory (now (bytes .entry)) (now (words .entry))) (callOf request) (refusedUnless (eqb lent numbers) row-state (memory (now (bytes .entry)) (now (words .entry))) (model.perform order (memory (now (bytes .entry)) (now (words .entry))) (callOf request))) r (now (bytes .exit)) (now (words .exit)) ⌝ }
+    ensures { λ r. ⌜ ToldEntry (memory (now (bytes .entry)) (now (words .entry))) (callOf request) (refusedUnless (eqb lent numbers) row-state (memory (now (bytes .entry)) (now (words .entry))) (model.perform order (memory (now (bytes .entry)) (now (words .entry))) (callOf request))) r (now (bytes .exit)) (now (words .exit)) ⌝ }
 {
     let call = call_of(request);
     call_lent(bytes, words, lent, order, call)
@@ -249,7 +284,8 @@ pub extern "C" fn tupehiwo_perform(
     order: Order,
     request: Request,
 ) -> Answer
-    ensures { λ r. ⌜ tallied (left (r .verdict) (r .rounds) (now (bytes .exit)) (now (words .exit))) (now (tallies .exit)) ≡ performed order (memory (now (bytes .entry)) (now (words .entry))) (now (tallies .entry)) (callOf request) ⌝ }
+    ensures { λ r. ⌜ (tallied (left (r .verdict) (r .rounds) (now (bytes .exit)) (now (words .exit))) (now (tallies .exit)) ≡ performed order (memory (now (bytes .entry)) (now (words .entry))) (now (tallies .entry)) (callOf request))
+        × (r .told ≡ told (callOf request) (r .verdict)) ⌝ }
 {
     let entry = request_lent(bytes, words, tallies.len(), order, request);
     tallies::enter(tallies, entry);
@@ -302,7 +338,8 @@ pub extern "C" fn tupehiwo_load(
     order: Order,
     text: &[u8],
 ) -> Answer
-    ensures { λ r. ⌜ tallied (left (r .verdict) (r .rounds) (now (bytes .exit)) (now (words .exit))) (now (tallies .exit)) ≡ loaded order (memory (now (bytes .entry)) (now (words .entry))) (now (tallies .entry)) (now (text .entry)) ⌝ }
+    ensures { λ r. ⌜ (tallied (left (r .verdict) (r .rounds) (now (bytes .exit)) (now (words .exit))) (now (tallies .exit)) ≡ loaded order (memory (now (bytes .entry)) (now (words .entry))) (now (tallies .entry)) (now (text .entry)))
+        × (r .told ≡ no-word) ⌝ }
 {
     let entry = load_lent(bytes, words, tallies.len(), order, text);
     tallies::enter(tallies, entry);

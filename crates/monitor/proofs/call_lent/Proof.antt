@@ -1,23 +1,13 @@
-use mathlib.Core.Path.{_∙_}
+use mathlib.Core.Path.{refl}
 use borrow.Author.Needs.{needs}
-use Rattle.model.specs.State.{memory}
-use Rattle.monitor.proofs.Entering.{another-entry, fitting}
 use Rattle.monitor.proofs.call_lent.Statement.{statement}
 use Rattle.monitor.proofs.call_lent.Tie as tie
 
 returns : tie.Need-returns
 returns c =
-    let s : tie.Start = search in
-    let i : tie.Then1 = search in
-    let z : tie.After-on-zero = search in
-    another-entry (memory (s .args .bytes .now) (s .args .words .now)) (s .args .lent) _ (s .args .call) (i .if1 .taken) (z .on-zero .ensures)
-
-returns-2 : tie.Need-returns-2
-returns-2 c =
-    let s : tie.Start = search in
-    let i : tie.Else1 = search in
-    let d : tie.After-carry-out = search in
-    (d .carry-out .ensures .0 ∙ fitting (memory (s .args .bytes .now) (s .args .words .now)) (s .args .lent) _ (i .if1 .left), d .carry-out .ensures .1, d .carry-out .ensures .2)
+    let j : tie.After-judge = search in
+    let t : tie.After-tell = search in
+    rw (t .tell .ensures) (j .judge .ensures, refl)
 
 pub call-lent-spec : {M : Type 1} → statement M
-call-lent-spec = tie.close (tie.spec (λ c κs. search needs) returns (λ c κs. search needs) (λ c. search needs) (λ c. search needs) returns-2)
+call-lent-spec = tie.close (tie.spec (λ c κs. search needs) (λ c κs. search needs) (λ c. search needs) (λ c. search needs) returns)

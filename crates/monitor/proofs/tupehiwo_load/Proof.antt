@@ -36,6 +36,7 @@ use Rattle.model.specs.Events.{left}
 use Rattle.model.specs.Monitor.{refusedUnless}
 use Rattle.model.specs.Load as loads
 use Rattle.model.specs.Tallies.{tallied, loaded}
+use Rattle.model.specs.Told.{no-word}
 use Rattle.levels.specs.declared.Order.{Order}
 use Rattle.model.specs.declared.Tally.{Tally}
 use Rattle.tallies.specs.declared.Entry.{Entry}
@@ -73,11 +74,11 @@ abbrev textTy : Ty
 textTy = sliceTy (tyRef (named 3) imm (tyInt w8))
 
 -- what the exported function says
-abbrev Told : List ℕ → List ℕ → List Tally → Order → List ℕ → Entry → List ℕ → List ℕ → List Tally → Type 0
-Told bs ws ts o t r xs ys zs = tallied (left (r .answer .verdict) (r .answer .rounds) xs ys) zs ≡ loaded o (memory bs ws) ts t
+abbrev Says : List ℕ → List ℕ → List Tally → Order → List ℕ → Entry → List ℕ → List ℕ → List Tally → Type 0
+Says bs ws ts o t r xs ys zs = (tallied (left (r .answer .verdict) (r .answer .rounds) xs ys) zs ≡ loaded o (memory bs ws) ts t) × (r .answer .told ≡ no-word)
 
-sums : (bs ws : List ℕ) (ts : List Tally) (o : Order) (t : List ℕ) (r : Entry) (xs ys : List ℕ) (zs : List Tally) → Did bs ws (length ts) o t r xs ys → zs ≡ enteredAs r ts → Told bs ws ts o t r xs ys zs
-sums bs ws ts o t r xs ys zs d e = ap (tallied (left (r .answer .verdict) (r .answer .rounds) xs ys)) e ∙ loaded-is o (memory bs ws) ts t _ r (d .0) refl (d .1)
+sums : (bs ws : List ℕ) (ts : List Tally) (o : Order) (t : List ℕ) (r : Entry) (xs ys : List ℕ) (zs : List Tally) → Did bs ws (length ts) o t r xs ys → zs ≡ enteredAs r ts → Says bs ws ts o t r xs ys zs
+sums bs ws ts o t r xs ys zs d e = (ap (tallied (left (r .answer .verdict) (r .answer .rounds) xs ys)) e ∙ loaded-is o (memory bs ws) ts t _ r (d .0) refl (d .1), d .3)
 
 module _ {M : Type 1} (𝓤 : URA M) (H : Heap 𝓤) (A : Atoms 𝓤) (W : Given 𝓤 H A) (mem : Memory → SProp 𝓤) (run : Routine → Fun 𝓤) where
   load-walks : (C : Calls 𝓤 H) (Λ : Loops 𝓤 H) → FmC 𝓤 H (W .laws) C → Triple 𝓤 (C #monitor·load-lent) (Judged 𝓤 H A mem run) → Triple 𝓤 (C #tallies·enter) (Entered 𝓤 H A mem run)
@@ -96,7 +97,7 @@ module _ {M : Type 1} (𝓤 : URA M) (H : Heap 𝓤) (A : Atoms 𝓤) (W : Given
       let q₃ = qs .1 .1 .1 .0 in
       via 𝓤 _ (fst∗ 𝓤 _ (emp 𝓤))
       (walk 𝓤 H A W mem run (κs .0) (κs .1 .0) (κs .1 .1 .0) (qs .0) (qs .1 .0) (qs .1 .1 .0) (‵ (flft κ₃ q₃) ⊛ ‵ ftrue) x₀ x₁ x₂ (LL.val O.the-type O′.the-laws o) (only (slice-vals x₃))
-      (owns (O.the-row ∷ ShrSlice (named 3) κ₃ u8 ∷ []) (o, (x₃, tt)) (os, (slice-vals x₃, tt))) (Did (x₀ .now) (x₁ .now) (length (x₂ .now)) o (x₃ .now)) (Told (x₀ .now) (x₁ .now) (x₂ .now) o (x₃ .now)) (λ r xs ys d. d .2) (sums (x₀ .now) (x₁ .now) (x₂ .now) o (x₃ .now))
+      (owns (O.the-row ∷ ShrSlice (named 3) κ₃ u8 ∷ []) (o, (x₃, tt)) (os, (slice-vals x₃, tt))) (Did (x₀ .now) (x₁ .now) (length (x₂ .now)) o (x₃ .now)) (Says (x₀ .now) (x₁ .now) (x₂ .now) o (x₃ .now)) (λ r xs ys d. d .2) (sums (x₀ .now) (x₁ .now) (x₂ .now) o (x₃ .now))
       C Λ fm 4 #monitor·load-lent textTy
       (λ _. known (((κs .0, (κs .1 .0, (κ₃, tt))), (qs .0, (qs .1 .0, (q₃, tt))), tt, (x₀, (x₁, (length (x₂ .now), (o, (x₃, tt))))), (slice-vals x₀, (slice-vals x₁, (uint-vals w64 (length (x₂ .now)), (os, (slice-vals x₃, tt)))))), tt)) known-enter
       _

@@ -34,12 +34,13 @@ use Rattle.model.specs.State.{memory}
 use Rattle.model.specs.Events.{left}
 use Rattle.model.specs.Monitor.{refusedUnless, perform}
 use Rattle.model.specs.Tallies.{tallied, performed}
+use Rattle.model.specs.Told.{told}
 use Rattle.levels.specs.declared.Order.{Order}
 use Rattle.model.specs.declared.Tally.{Tally}
 use Rattle.tallies.specs.declared.Entry.{Entry}
 use Rattle.tallies.specs.Entries.{enteredAs}
 use Rattle.tallies.specs.EntryLaws.{performed-is}
-use Rattle.monitor.specs.Entered.{CallEntry}
+use Rattle.monitor.specs.Entered.{ToldEntry}
 use Rattle.monitor.specs.Request.{callOf}
 use Rattle.monitor.specs.declared.Request.{Request}
 use Rattle.levels.proofs.Order as O
@@ -69,14 +70,15 @@ Judged 𝓤 H A mem run = tripleOf 𝓤 H A judged.signature (judged.spec 𝓤 H
 
 abbrev Did : List ℕ → List ℕ → ℕ → Order → Request → Entry → List ℕ → List ℕ → Type 0
 Did bs ws l o k r xs ys =
-    CallEntry (memory bs ws) (callOf k) (refusedUnless (eqb l numbers) row-state (memory bs ws) (perform o (memory bs ws) (callOf k))) r xs ys
+    ToldEntry (memory bs ws) (callOf k) (refusedUnless (eqb l numbers) row-state (memory bs ws) (perform o (memory bs ws) (callOf k))) r xs ys
 
 -- what the exported function says
-abbrev Told : List ℕ → List ℕ → List Tally → Order → Request → Entry → List ℕ → List ℕ → List Tally → Type 0
-Told bs ws ts o k r xs ys zs = tallied (left (r .answer .verdict) (r .answer .rounds) xs ys) zs ≡ performed o (memory bs ws) ts (callOf k)
+abbrev Says : List ℕ → List ℕ → List Tally → Order → Request → Entry → List ℕ → List ℕ → List Tally → Type 0
+Says bs ws ts o k r xs ys zs =
+    (tallied (left (r .answer .verdict) (r .answer .rounds) xs ys) zs ≡ performed o (memory bs ws) ts (callOf k)) × (r .answer .told ≡ told (callOf k) (r .answer .verdict))
 
-sums : (bs ws : List ℕ) (ts : List Tally) (o : Order) (k : Request) (r : Entry) (xs ys : List ℕ) (zs : List Tally) → Did bs ws (length ts) o k r xs ys → zs ≡ enteredAs r ts → Told bs ws ts o k r xs ys zs
-sums bs ws ts o k r xs ys zs d e = ap (tallied (left (r .answer .verdict) (r .answer .rounds) xs ys)) e ∙ performed-is o (memory bs ws) ts (callOf k) _ r (d .0) refl (d .1)
+sums : (bs ws : List ℕ) (ts : List Tally) (o : Order) (k : Request) (r : Entry) (xs ys : List ℕ) (zs : List Tally) → Did bs ws (length ts) o k r xs ys → zs ≡ enteredAs r ts → Says bs ws ts o k r xs ys zs
+sums bs ws ts o k r xs ys zs d e = (ap (tallied (left (r .answer .verdict) (r .answer .rounds) xs ys)) e ∙ performed-is o (memory bs ws) ts (callOf k) _ r (d .0 .0) refl (d .0 .1), d .1)
 
 module _ {M : Type 1} (𝓤 : URA M) (H : Heap 𝓤) (A : Atoms 𝓤) (W : Given 𝓤 H A) (mem : Memory → SProp 𝓤) (run : Routine → Fun 𝓤) where
   perform-walks : (C : Calls 𝓤 H) (Λ : Loops 𝓤 H) → FmC 𝓤 H (W .laws) C → Triple 𝓤 (C #monitor·request-lent) (Judged 𝓤 H A mem run) → Triple 𝓤 (C #tallies·enter) (Entered 𝓤 H A mem run)
@@ -94,7 +96,7 @@ module _ {M : Type 1} (𝓤 : URA M) (H : Heap 𝓤) (A : Atoms 𝓤) (W : Given
       let ks = LL.vals E.the-type E′.the-laws k in
       via 𝓤 _ (fst∗ 𝓤 _ (emp 𝓤))
       (walk 𝓤 H A W mem run (κs .0) (κs .1 .0) (κs .1 .1 .0) (qs .0) (qs .1 .0) (qs .1 .1 .0) (‵ ftrue) x₀ x₁ x₂ (LL.val O.the-type O′.the-laws o) (LL.val E.the-type E′.the-laws k)
-      (owns (O.the-row ∷ E.the-row ∷ []) (o, (k, tt)) (os, (ks, tt))) (Did (x₀ .now) (x₁ .now) (length (x₂ .now)) o k) (Told (x₀ .now) (x₁ .now) (x₂ .now) o k) (λ r xs ys d. d .2) (sums (x₀ .now) (x₁ .now) (x₂ .now) o k)
+      (owns (O.the-row ∷ E.the-row ∷ []) (o, (k, tt)) (os, (ks, tt))) (Did (x₀ .now) (x₁ .now) (length (x₂ .now)) o k) (Says (x₀ .now) (x₁ .now) (x₂ .now) o k) (λ r xs ys d. d .0 .2) (sums (x₀ .now) (x₁ .now) (x₂ .now) o k)
       C Λ fm 3 #monitor·request-lent E′.mir
       (λ _. known (((κs .0, (κs .1 .0, tt)), (qs .0, (qs .1 .0, tt)), tt, (x₀, (x₁, (length (x₂ .now), (o, (k, tt))))), (slice-vals x₀, (slice-vals x₁, (uint-vals w64 (length (x₂ .now)), (os, (ks, tt)))))), tt)) known-enter
       _
