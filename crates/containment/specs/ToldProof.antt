@@ -32,9 +32,9 @@ pub verdicts-show-marks : VerdictsShowMarks
 unfolding pastOrder trials deletions withFile scratch filed threeThings fresh started setRecord setField
 verdicts-show-marks = (
   let slips = trials-hold .1 .1 .1 .1 .1 .1 .1 .0 .gives in
-  let refused = trials-hold .1 .1 .1 .1 .1 .1 .0 .gives in
-  record { order = Q; one = threeThings 1 3 0; other = threeThings 1 3 1; twins = pair (threeThings 1 3 1) (threeThings 1 3 0) 3 refl _ _ (ap pastOrder slips) (ap pastOrder refused); gives-one = refused; gives-other = slips },
+      let refused = trials-hold .1 .1 .1 .1 .1 .1 .0 .gives in
+      record { order = Q; one = threeThings 1 3 0; other = threeThings 1 3 1; twins = pair (threeThings 1 3 1) (threeThings 1 3 0) 3 refl _ _ (ap pastOrder slips) (ap pastOrder refused); gives-one = refused; gives-other = slips },
   let feeds = deletions-hold .1 .0 .gives in
-  let deleted = deletions-hold .0 .gives in
-  record { order = Q; one = withFile 0; other = withFile 1; twins = pair (withFile 1) (withFile 0) 4 refl _ _ (ap pastOrder feeds) (ap pastOrder deleted); gives-one = deleted; gives-other = feeds },
+      let deleted = deletions-hold .0 .gives in
+      record { order = Q; one = withFile 0; other = withFile 1; twins = pair (withFile 1) (withFile 0) 4 refl _ _ (ap pastOrder feeds) (ap pastOrder deleted); gives-one = deleted; gives-other = feeds },
 )

@@ -201,7 +201,7 @@ module _ {size : Size} (o : Order) (m n : MemoryOf size) (k : SameButMarks m n) 
 
   heard : (d e : Event) → Alike d e → yesOrNo (fitted o m (outcome m d) .verdict) ≡ yesOrNo (fitted o n (outcome n e) .verdict)
   unfolding yesOrNo
-  heard d e h = rw (behind d e h)
+  heard d e h = ap (λ b. cond b told-yes told-no) (behind d e h)
 
   -- ---- every call, and whole calls
 
