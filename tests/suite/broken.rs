@@ -8,6 +8,7 @@ use std::os::unix::net::UnixStream;
 use std::os::unix::process::ExitStatusExt;
 use std::path::Path;
 use std::process::{Child, Command, Output, Stdio};
+use std::sync::{Mutex, MutexGuard, PoisonError};
 use std::thread;
 use std::time::{Duration, Instant};
 
@@ -36,6 +37,18 @@ fn by_shell(line: &str) -> Command {
     command
 }
 
+/// Held while a program is begun. Until it runs, a copy of this process stands in its place and
+/// has our ends of all pipes: one that is closed here at that moment is still open there.
+fn alone() -> MutexGuard<'static, ()> {
+    static BEGINNING: Mutex<()> = Mutex::new(());
+    BEGINNING.lock().unwrap_or_else(PoisonError::into_inner)
+}
+
+fn begun(command: &mut Command) -> Child {
+    let _alone = alone();
+    command.spawn().expect("the program runs")
+}
+
 /// Waits for the end, for ten seconds.
 fn must_end(mut child: Child) -> Output {
     let begin = Instant::now();
@@ -60,7 +73,7 @@ fn speak(mut child: Child, input: &[u8]) -> Output {
 }
 
 fn run(line: &str, input: &[u8]) -> Output {
-    speak(by_shell(line).spawn().expect("the program runs"), input)
+    speak(begun(&mut by_shell(line)), input)
 }
 
 /// It told which side broke, and printed no list.
@@ -73,7 +86,7 @@ fn must_say(ended: &Output, side: &str, printed: &[u8]) {
 
 /// The shell gives it a broken input: nothing is answered.
 fn must_refuse_input(line: &str) {
-    let ended = must_end(by_shell(line).spawn().expect("the program runs"));
+    let ended = must_end(begun(&mut by_shell(line)));
     must_say(&ended, INPUT, &ended.stdout);
     assert_eq!(ended.stdout, b"", "it answers what it cannot have read");
 }
@@ -100,8 +113,7 @@ fn an_input_that_breaks_off() {
         theirs.set_nonblocking(true).expect("a line that breaks off");
         ours.write_all(said.as_bytes()).expect("the line takes it");
         let mut command = by_shell("exec \"$0\"");
-        let child = command.stdin(OwnedFd::from(theirs)).spawn().expect("the program runs");
-        let ended = must_end(child);
+        let ended = must_end(begun(command.stdin(OwnedFd::from(theirs))));
         must_say(&ended, INPUT, &ended.stdout);
         assert_eq!(String::from_utf8_lossy(&ended.stdout), answers, "after {said:?}");
     }
@@ -123,8 +135,10 @@ fn no_output() {
 
 /// Its output is a pipe that nobody reads.
 fn run_unheard(line: &str, input: &[u8]) -> Output {
+    let alone = alone();
     let mut child = by_shell(line).spawn().expect("the program runs");
     drop(child.stdout.take());
+    drop(alone);
     speak(child, input)
 }
 
@@ -193,7 +207,7 @@ fn an_output_that_fails_for_a_while() {
     tell.set_nonblocking(false).expect("a line that waits");
     let mut command = by_shell("exec \"$0\"");
     command.stdout(OwnedFd::from(theirs)).stderr(OwnedFd::from(tell));
-    let mut child = command.spawn().expect("the program runs");
+    let mut child = begun(&mut command);
     drop(command);
     let mut stdin = child.stdin.take().expect("a pipe to the program");
     let expected = output(&input);
