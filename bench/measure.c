@@ -51,6 +51,19 @@ __attribute__((noinline)) void run_batch(const struct side *side,
 
 /* ------------------------------------------------------------------ checks */
 
+/*
+ * Set by bench/run where one side is an earlier library. That may answer with two bytes: what
+ * stands in the place of the word is then what happened to be in the register.
+ */
+#ifndef BEFORE
+#define BEFORE 0
+#endif
+
+static int same_answer(const struct tupehiwo_answer *a, const struct tupehiwo_answer *b)
+{
+    return a->verdict == b->verdict && a->rounds == b->rounds && (BEFORE || a->told == b->told);
+}
+
 static int same_report(const struct tupehiwo_report *a, const struct tupehiwo_report *b)
 {
     return memcmp(a->words, b->words, sizeof a->words) == 0 && a->ones == b->ones &&
@@ -68,7 +81,8 @@ static int same_memory(const struct tupehiwo_monitor *a, const struct tupehiwo_m
 static int same_trial(const struct trial *a, const struct trial *b)
 {
     return same_memory(&a->memory, &b->memory) &&
-           memcmp(a->answers, b->answers, sizeof a->answers) == 0 &&
+           same_answer(&a->answers[0], &b->answers[0]) &&
+           same_answer(&a->answers[1], &b->answers[1]) &&
            a->checked.offset == b->checked.offset &&
            a->checked.verdict == b->checked.verdict && same_report(&a->report, &b->report);
 }

@@ -481,6 +481,24 @@ static void raise(struct tupehiwo_tally *tally, uint8_t verdict)
         ++*count;
 }
 
+/* Puts in what the driver is told: of these calls alone, and yes only of a granted one. */
+static struct tupehiwo_answer tell(struct tupehiwo_answer answer, unsigned code)
+{
+    switch (code) {
+    case TUPEHIWO_CODE_READ:
+    case TUPEHIWO_CODE_WRITE:
+    case TUPEHIWO_CODE_EXECUTE:
+    case TUPEHIWO_CODE_CREATE:
+    case TUPEHIWO_CODE_CREATE_ROOT:
+    case TUPEHIWO_CODE_MOVE:
+    case TUPEHIWO_CODE_CALL:
+    case TUPEHIWO_CODE_INVOKE:
+        answer.told =
+            answer.verdict == TUPEHIWO_GRANTED ? TUPEHIWO_TOLD_YES : TUPEHIWO_TOLD_NO;
+    }
+    return answer;
+}
+
 /* A list of another length is left as it is; nothing can be counted on it. */
 struct tupehiwo_answer baseline_perform(uint8_t *bytes, size_t nbytes, uint64_t *words,
                                         size_t nwords, struct tupehiwo_tally *tallies,
@@ -488,11 +506,11 @@ struct tupehiwo_answer baseline_perform(uint8_t *bytes, size_t nbytes, uint64_t 
                                         struct tupehiwo_request request)
 {
     struct state s = {bytes, words, &order};
-    struct tupehiwo_answer answer = {TUPEHIWO_STATE, 0};
+    struct tupehiwo_answer answer = {TUPEHIWO_STATE, 0, TUPEHIWO_NO_WORD};
     int starting = request.code == TUPEHIWO_CODE_START;
     unsigned counted = 0;
     if (ntallies != TUPEHIWO_TALLIES)
-        return answer;
+        return tell(answer, request.code);
     answer.verdict = fit(bytes, nbytes, nwords, &order, starting);
     if (answer.verdict == TUPEHIWO_GRANTED) {
         counted = asker(&s, request);
@@ -504,7 +522,7 @@ struct tupehiwo_answer baseline_perform(uint8_t *bytes, size_t nbytes, uint64_t 
             clear_tallies(tallies);
     }
     raise(&tallies[counted], answer.verdict);
-    return answer;
+    return tell(answer, request.code);
 }
 
 /* The calls of one object: a root's, or two writes to the container and a create in it. */
@@ -546,7 +564,7 @@ struct tupehiwo_answer baseline_load(uint8_t *bytes, size_t nbytes, uint64_t *wo
                                      const uint8_t *text, size_t ntext)
 {
     struct state s = {bytes, words, &order};
-    struct tupehiwo_answer answer = {TUPEHIWO_STATE, 0};
+    struct tupehiwo_answer answer = {TUPEHIWO_STATE, 0, TUPEHIWO_NO_WORD};
     if (ntallies != TUPEHIWO_TALLIES)
         return answer;
     answer.verdict = fit(bytes, nbytes, nwords, &order, 1);

@@ -213,7 +213,7 @@ static enum outcome call(const struct word *word, const char *at,
 
 static void do_line(const char *line)
 {
-    struct tupehiwo_answer answer = {0, 0};
+    struct tupehiwo_answer answer = {0, 0, 0};
     uint64_t key = key_of(&line);
     const struct word *word = slots[key % SLOTS].key == key ? slots[key % SLOTS].word : NULL;
     enum outcome outcome = word == NULL                        ? BAD

@@ -94,6 +94,23 @@ enum {
     TUPEHIWO_FEEDING = 16 /* an object to be deleted is marked and feeds an unmarked thing */
 };
 
+/* -------------------------------------------------------------- told words */
+
+/*
+ * What the driver is told of a read, write, execute, create, create root, move, call or
+ * invoke; no other call has a word, nor has a load. The verdict is for whoever runs the
+ * monitor, the word for the driver: a driver that is given the word alone does not learn
+ * from that one call who is marked. The verdict may show it: TUPEHIWO_SLIPPED stands
+ * against TUPEHIWO_RULE by a mark alone, and of a deletion TUPEHIWO_FEEDING against
+ * TUPEHIWO_GRANTED, which is why a deletion has no word. That covers one call: a slip
+ * records an access that later calls see.
+ */
+enum {
+    TUPEHIWO_NO_WORD = 0,  /* the call has none */
+    TUPEHIWO_TOLD_YES = 1, /* it was granted */
+    TUPEHIWO_TOLD_NO = 2   /* it slipped or was refused, for whatever reason */
+};
+
 /* ------------------------------------------------------------------ codes */
 
 /* What a request asks for; its arguments fill a, b, c, d, e in this order. */
@@ -136,10 +153,14 @@ struct tupehiwo_tally {
     uint32_t granted, slipped, refused;
 };
 
-/* A verdict, and the rounds that marked something if a spread was granted. */
+/*
+ * A verdict, the rounds that marked something if a spread was granted, and the word for
+ * the driver.
+ */
 struct tupehiwo_answer {
     uint8_t verdict;
     uint8_t rounds;
+    uint8_t told;
 };
 
 /* A code, and its arguments; those that the code does not use are ignored. */
@@ -226,6 +247,7 @@ struct tupehiwo_monitor {
     uint64_t words[TUPEHIWO_WORDS];
     struct tupehiwo_tally tallies[TUPEHIWO_TALLIES];
     struct tupehiwo_order order; /* that of the last start or load that made the state anew */
+    uint8_t told;                /* what the driver of the last call is told */
 };
 
 /*
@@ -247,8 +269,11 @@ static inline struct tupehiwo_answer tupehiwo_do(struct tupehiwo_monitor *m, uin
     struct tupehiwo_request request = {tupehiwo_narrow(code), tupehiwo_narrow(a),
                                        tupehiwo_narrow(b),    tupehiwo_narrow(c),
                                        tupehiwo_narrow(d),    tupehiwo_narrow(e)};
-    return tupehiwo_perform(m->bytes, TUPEHIWO_BYTES, m->words, TUPEHIWO_WORDS, m->tallies,
-                            TUPEHIWO_TALLIES, m->order, request);
+    struct tupehiwo_answer answer =
+        tupehiwo_perform(m->bytes, TUPEHIWO_BYTES, m->words, TUPEHIWO_WORDS, m->tallies,
+                         TUPEHIWO_TALLIES, m->order, request);
+    m->told = answer.told;
+    return answer;
 }
 
 /*
@@ -263,6 +288,7 @@ static inline uint8_t tupehiwo_start(struct tupehiwo_monitor *m, struct tupehiwo
                          TUPEHIWO_TALLIES, order, request);
     if (answer.verdict == TUPEHIWO_GRANTED)
         m->order = order;
+    m->told = answer.told;
     return answer.verdict;
 }
 
@@ -281,6 +307,7 @@ static inline uint8_t tupehiwo_monitor_load(struct tupehiwo_monitor *m,
                       TUPEHIWO_TALLIES, order, (const uint8_t *)text, ntext);
     if (answer.verdict != TUPEHIWO_STATE && answer.verdict != TUPEHIWO_ORDER)
         m->order = order;
+    m->told = answer.told;
     return answer.verdict;
 }
 

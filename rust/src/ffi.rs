@@ -25,12 +25,14 @@ pub struct Tally {
     pub refused: u32,
 }
 
-/// A verdict's number, and the rounds of a granted spread.
+/// A verdict's number, the rounds of a granted spread, and the word for the driver, one of
+/// [`told`].
 #[repr(C)]
 #[derive(Clone, Copy, Debug, PartialEq, Eq)]
 pub struct Answer {
     pub verdict: u8,
     pub rounds: u8,
+    pub told: u8,
 }
 
 /// A call's code, and its arguments; those that the code does not use are ignored.
@@ -186,6 +188,17 @@ pub fn layout(text: &[u8]) -> Checked {
 pub fn report(bytes: &[u8], words: &[u64], order: Order) -> Report {
     // SAFETY: the pointers are those of slices, with the slices' own lengths.
     unsafe { tupehiwo_report(bytes.as_ptr(), bytes.len(), words.as_ptr(), words.len(), order) }
+}
+
+/// What the driver is told of a call; [`Monitor::told`](crate::Monitor::told) says of which
+/// calls, and what it does not show.
+pub mod told {
+    /// The call has none.
+    pub const NO_WORD: u8 = 0;
+    /// It was granted.
+    pub const YES: u8 = 1;
+    /// It slipped or was refused.
+    pub const NO: u8 = 2;
 }
 
 /// The code of each call; its arguments fill `a`, `b`, `c`, `d`, `e` in the

@@ -46,11 +46,13 @@ pub mod ffi;
 pub mod layout;
 mod monitor;
 mod report;
+mod told;
 mod verdict;
 
 pub use ffi::{Order, Tally};
 pub use monitor::{Answer, BYTES, Monitor, TALLIES, WORDS};
 pub use report::{Marked, Report};
+pub use told::Told;
 pub use verdict::Verdict;
 
 impl Order {

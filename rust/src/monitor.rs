@@ -1,5 +1,6 @@
 use crate::ffi::{self, Order, Request, Tally, code};
 use crate::report::Report;
+use crate::told::Told;
 use crate::verdict::Verdict;
 
 /// Bytes of memory: eight for each number.
@@ -22,13 +23,30 @@ pub struct Answer {
 ///
 /// Numbers of tasks and objects go from 0 to 127; task 0 is the core. A number
 /// or level that does not fit is refused, never a panic.
-#[derive(Clone, Debug, PartialEq, Eq)]
+///
+/// Two monitors are equal if their memory and their orders are, whatever the drivers of their
+/// last calls are told.
+#[derive(Clone, Debug)]
 pub struct Monitor {
     bytes: Box<[u8; BYTES]>,
     words: Box<[u64; WORDS]>,
     tallies: Box<[Tally; TALLIES]>,
     order: Order,
+    told: Option<Told>,
 }
+
+impl PartialEq for Monitor {
+    fn eq(&self, other: &Monitor) -> bool {
+        // All fields by name: one that is added has to be thought of here.
+        let Monitor { bytes, words, tallies, order, told: _ } = self;
+        *bytes == other.bytes
+            && *words == other.words
+            && *tallies == other.tallies
+            && *order == other.order
+    }
+}
+
+impl Eq for Monitor {}
 
 impl Default for Monitor {
     fn default() -> Monitor {
@@ -66,6 +84,7 @@ impl Monitor {
             words: Box::new(words),
             tallies: Box::new(tallies),
             order,
+            told: None,
         }
     }
 
@@ -152,6 +171,50 @@ impl Monitor {
         self.order
     }
 
+    /// The word for the driver of the last call: `Yes` if it was granted, `No` if it slipped or
+    /// was refused. Read, write, execute, both creates, move, call and invoke have a word; after
+    /// any other call, and before the first, there is none.
+    ///
+    /// The verdict is for whoever runs the monitor, the word for the driver: a driver that is
+    /// given the word alone does not learn from that one call who is marked. The verdict may show
+    /// it: `Slipped` stands against `Rule` by a mark alone, and of a deletion `Feeding` against
+    /// `Granted`, which is why a deletion has no word. That covers one call: a slip records an
+    /// access that later calls see.
+    ///
+    /// ```
+    /// use tupehiwo::{Monitor, Order, Told, Verdict};
+    ///
+    /// // A diamond of levels: 1 and 2 are unrelated.
+    /// let mut monitor = Monitor::new();
+    /// assert_eq!(monitor.start(Order::new(3, [15, 10, 12, 8])), Verdict::Granted);
+    /// assert_eq!(monitor.told(), None);
+    /// assert_eq!(monitor.create_root(0, 0, 10, 3), Verdict::Granted); // an image
+    /// assert_eq!(monitor.execute(0, 10, 1, 1, 1), Verdict::Granted); // a task at 1
+    /// assert_eq!(monitor.execute(0, 10, 2, 3, 3), Verdict::Granted); // a driver at 3
+    /// assert_eq!(monitor.create_root(0, 2, 20, 2), Verdict::Granted); // its object at 2
+    /// assert_eq!(monitor.create_root(0, 2, 21, 3), Verdict::Granted); // and one at 3
+    ///
+    /// assert_eq!(monitor.read(1, 2, 21), Verdict::Granted);
+    /// assert_eq!(monitor.told(), Some(Told::Yes));
+    ///
+    /// // The verdict shows whether the driver is marked, the word does not.
+    /// assert_eq!(monitor.read(1, 2, 20), Verdict::Rule);
+    /// assert_eq!(monitor.told(), Some(Told::No));
+    /// assert_eq!(monitor.mark(2), Verdict::Granted);
+    /// assert_eq!(monitor.told(), None);
+    /// assert_eq!(monitor.read(1, 2, 20), Verdict::Slipped);
+    /// assert_eq!(monitor.told(), Some(Told::No));
+    ///
+    /// // A deletion has no word.
+    /// assert_eq!(monitor.write(0, 0, 10), Verdict::Granted);
+    /// assert_eq!(monitor.create(0, 0, 11, 10, 0), Verdict::Granted);
+    /// assert_eq!(monitor.delete(0, 0, 11, 10), Verdict::Granted);
+    /// assert_eq!(monitor.told(), None);
+    /// ```
+    pub fn told(&self) -> Option<Told> {
+        self.told
+    }
+
     /// Begins anew under an order: the core alone, at the top.
     ///
     /// A granted start sets all tallies to zero, and then counts itself. A refused
@@ -214,6 +277,7 @@ impl Monitor {
     pub fn load(&mut self, order: Order, text: &[u8]) -> Verdict {
         let (bytes, words) = (&mut self.bytes[..], &mut self.words[..]);
         let raw = ffi::load(bytes, words, &mut self.tallies[..], order, text);
+        self.told = Told::from_number(raw.told);
         let verdict = verdict(raw.verdict);
         if !matches!(verdict, Verdict::State | Verdict::Order) {
             self.order = order;
@@ -384,6 +448,7 @@ impl Monitor {
         let request = Request { code, a, b, c, d, e };
         let (bytes, words) = (&mut self.bytes[..], &mut self.words[..]);
         let raw = ffi::perform(bytes, words, &mut self.tallies[..], order, request);
+        self.told = Told::from_number(raw.told);
         Answer { verdict: verdict(raw.verdict), rounds: raw.rounds }
     }
 }
