@@ -13,6 +13,7 @@ static struct {
     const void *text;
     size_t ntext;
     uint8_t verdict; /* what to answer */
+    uint8_t told;    /* and what to tell, each time another */
 } lent;
 
 struct tupehiwo_answer tupehiwo_perform(uint8_t *bytes, size_t nbytes, uint64_t *words,
@@ -20,7 +21,7 @@ struct tupehiwo_answer tupehiwo_perform(uint8_t *bytes, size_t nbytes, uint64_t 
                                         size_t ntallies, struct tupehiwo_order order,
                                         struct tupehiwo_request request)
 {
-    struct tupehiwo_answer answer = {lent.verdict, 99};
+    struct tupehiwo_answer answer = {lent.verdict, 99, ++lent.told};
     lent.bytes = bytes;
     lent.nbytes = nbytes;
     lent.words = words;
@@ -68,7 +69,7 @@ static int list_of(const struct tupehiwo_monitor *m)
            sizeof m->tallies == 128 * sizeof m->tallies[0];
 }
 
-/* The verdict came back, and the request had this code and these arguments. */
+/* Verdict and word came back, and the request had this code and these arguments. */
 static void expect_request(const struct tupehiwo_monitor *m, uint8_t verdict, const char *what,
                            uint16_t code, const uint64_t *numbers)
 {
@@ -76,6 +77,7 @@ static void expect_request(const struct tupehiwo_monitor *m, uint8_t verdict, co
     const uint64_t given[MOST_NUMBERS] = {q.a, q.b, q.c, q.d, q.e};
     expect(memory_of(m) && list_of(m), what);
     expect(verdict == lent.verdict && q.code == code, what);
+    expect(m->told == lent.told, what);
     expect(memcmp(given, numbers, sizeof given) == 0, what);
     lent.verdict++;
 }
@@ -114,7 +116,7 @@ static void check_spread_and_report(struct tupehiwo_monitor *m)
     const uint64_t none[MOST_NUMBERS] = {0, 0, 0, 0, 0};
     struct tupehiwo_answer answer = tupehiwo_spread(m);
     expect_request(m, answer.verdict, "spread", 15, none);
-    expect(answer.rounds == 99, "rounds");
+    expect(answer.rounds == 99 && answer.told == lent.told, "rounds and word");
     expect(tupehiwo_marked(m).ones == 2 && memory_of(m), "report");
 }
 
@@ -141,6 +143,7 @@ static void check_start(struct tupehiwo_monitor *m)
     expect(memcmp(&m->order, &first, sizeof first) == 0, "the order of a granted start");
     lent.verdict = TUPEHIWO_ORDER;
     expect(tupehiwo_start(m, second) == TUPEHIWO_ORDER, "refused start");
+    expect(m->told == lent.told, "the word of a refused start");
     expect(memcmp(&lent.order, &second, sizeof second) == 0, "the order lent to a start");
     expect(memcmp(&m->order, &first, sizeof first) == 0, "the order after a refused start");
 }
@@ -155,6 +158,7 @@ static void check_load(struct tupehiwo_monitor *m)
         m->order = orders[0];
         lent.verdict = verdict;
         expect(tupehiwo_monitor_load(m, orders[1], text, sizeof text - 1) == verdict, "load");
+        expect(m->told == lent.told, "the word of a load");
         expect(memcmp(&lent.order, &orders[1], sizeof lent.order) == 0, "a load's order");
         expect(memcmp(&m->order, &orders[!kept], sizeof m->order) == 0, "order after a load");
         m->order = lent.order;

@@ -1,8 +1,8 @@
 /*
  * Numbers that do not fit 16 bits, through the inline functions of the header
  * and the library: refused in their place of the table, and nothing is changed but
- * one count, of the task that asks or, where none does, of the core. Compiled as C
- * and as C++.
+ * one count, of the task that asks or, where none does, of the core, and the word for
+ * the driver. Compiled as C and as C++.
  */
 #include "calls.h"
 
@@ -50,6 +50,14 @@ static uint64_t asker(const struct call *call)
     return call->code <= TUPEHIWO_CODE_FIND ? call->fit[0] : 0;
 }
 
+/* What the driver is told of a call with this code. */
+static void expect_told(const struct tupehiwo_monitor *m, uint16_t code, uint8_t word,
+                        const char *what)
+{
+    int heard = code <= TUPEHIWO_CODE_INVOKE && code != TUPEHIWO_CODE_DELETE;
+    expect(m->told == (heard ? word : (uint8_t)TUPEHIWO_NO_WORD), what);
+}
+
 /* Every call, place and wide number; the verdict for things, and that for levels. */
 static void check_calls(const struct tupehiwo_monitor *before, uint8_t thing, uint8_t level)
 {
@@ -63,6 +71,7 @@ static void check_calls(const struct tupehiwo_monitor *before, uint8_t thing, ui
                 int asked = place > 0 && verdict > TUPEHIWO_ORDER;
                 expect_refused(&m, given, verdict, asked ? asker(&calls[i]) : 0, before,
                                calls[i].name);
+                expect_told(&m, calls[i].code, TUPEHIWO_TOLD_NO, calls[i].name);
             }
 }
 
@@ -74,6 +83,7 @@ static void check_codes(const struct tupehiwo_monitor *before, uint8_t verdict)
             struct tupehiwo_monitor m = *before;
             uint8_t given = tupehiwo_do(&m, wide(which, code), 1, 2, 127, 0, 0).verdict;
             expect_refused(&m, given, verdict, 0, before, "a wide code");
+            expect(m.told == TUPEHIWO_NO_WORD, "the word of a wide code");
         }
 }
 
@@ -84,6 +94,7 @@ static void check_fit_numbers(const struct tupehiwo_monitor *before)
         struct tupehiwo_monitor m = *before;
         uint64_t n = asker(&calls[i]);
         expect(calls[i].ask(&m, calls[i].fit) == TUPEHIWO_GRANTED, calls[i].name);
+        expect_told(&m, calls[i].code, TUPEHIWO_TOLD_YES, calls[i].name);
         expect(m.tallies[n].granted == before->tallies[n].granted + 1, calls[i].name);
     }
 }
@@ -107,6 +118,7 @@ int main(void)
 {
     static struct tupehiwo_monitor m, zero;
     build(&m);
+    m.told = zero.told = 99; /* what is left so is found */
     check_fit_numbers(&m);
     check_calls(&m, TUPEHIWO_NUMBER, TUPEHIWO_SCALE);
     check_codes(&m, TUPEHIWO_NUMBER);

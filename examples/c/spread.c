@@ -17,6 +17,13 @@ static void say(const char *what, uint8_t verdict)
     printf("%-40s %2u %s\n", what, verdict, tupehiwo_word(verdict));
 }
 
+/* No both times: from the word alone the file server cannot learn that it was found out. */
+static void read_download(struct tupehiwo_monitor *m)
+{
+    say("the gauge reads the download", tupehiwo_read(m, GAUGE, FILE_SERVER, DOWNLOAD));
+    printf("    the file server is told %s\n", m->told == TUPEHIWO_TOLD_YES ? "yes" : "no");
+}
+
 static void load(struct tupehiwo_monitor *m)
 {
     struct tupehiwo_order order = {{3, 2}, 2, SHOP}; /* 0 is at or below 1, the top */
@@ -57,9 +64,9 @@ int main(void)
 {
     static struct tupehiwo_monitor m; /* zeros, as a monitor begins */
     load(&m);
-    say("the gauge reads the download", tupehiwo_read(&m, GAUGE, FILE_SERVER, DOWNLOAD));
+    read_download(&m);
     say("the file server is marked", tupehiwo_mark(&m, FILE_SERVER));
-    say("the gauge reads the download", tupehiwo_read(&m, GAUGE, FILE_SERVER, DOWNLOAD));
+    read_download(&m);
     say("the gauge writes the table", tupehiwo_write(&m, GAUGE, CORE, TABLE));
 
     struct tupehiwo_answer answer = tupehiwo_spread(&m);

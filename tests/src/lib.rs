@@ -7,12 +7,14 @@
 //! - [`compare`]: the library and the model side by side, held equal after each call.
 //! - [`author`]: random calls that look at the state, so that each verdict occurs.
 //! - [`list`]: a list of calls from a start, and [`history`]: what its calls have joined.
+//! - [`cast`]: small worlds in which each call is granted, slips or is refused.
 //! - [`worlds`]: random orders and memories, reached from a start or not.
 //! - [`table`]: how often each call gave each verdict, and which pairs cannot occur.
 //! - [`causes`]: the same for the causes that share a verdict.
 
 pub mod author;
 pub mod cases;
+pub mod cast;
 pub mod causes;
 pub mod compare;
 pub mod history;

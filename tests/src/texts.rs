@@ -94,6 +94,31 @@ pub fn adjoining(count: usize, number: impl Fn(usize) -> usize) -> Vec<u8> {
     format!("{}{inner})\n", line(0)).into_bytes()
 }
 
+/// Under Q: two tasks that drive, of which one writes to what the other drives.
+pub const BEGUN: &str = "(object 10 driver 0 level 3)\n(task 1 image 10 level 3 reads 0)\n\
+                         (task 127 image 10 level 3 reads 3)\n(object 20 driver 1 level 3\n\
+                         (object 21 driver 127 level 2\n(object 22 driver 1 level 2)))\n";
+
+/// What follows that, and the verdict.
+const REFUSED: [(&str, u8); 9] = [
+    ("(", 14),
+    ("(object 1 driver 0 level 0) \n", 14),
+    ("(object 30 driver 9 level 0)\n", 4),
+    ("(object 30 driver 1 level 3\n(object 31 driver 10 level 0))\n", 4),
+    ("(object 127 driver 1 level 0)\n", 5),
+    ("(task 2 image 10 level 4 reads 0)\n", 9),
+    ("(task 2 image 21 level 3 reads 0)\n", 11),
+    ("(object 30 driver 1 level 2\n(object 31 driver 127 level 3))\n", 11),
+    ("(object 30 driver 1 level 0\n(object 31 driver 1 level 999))\n", 9),
+];
+
+/// All of these with their beginning, and one that is too deep.
+pub fn refused() -> Vec<(Vec<u8>, u8)> {
+    let behind = |text: &[u8]| [BEGUN.as_bytes(), text].concat();
+    let texts = REFUSED.iter().map(|&(text, verdict)| (behind(text.as_bytes()), verdict));
+    texts.chain([(behind(&nested(9, |_| 30)), 15)]).collect()
+}
+
 /// The text of a layout, under an order that passes: granted, or with one number
 /// changed, or too deep, or damaged, or long.
 pub fn any(rng: &mut Rng, order: &Order) -> Vec<u8> {

@@ -188,6 +188,17 @@ pub fn random_task(rng: &mut Rng, count: u16) -> Task {
     }
 }
 
+/// Another mark for a thing, or the same again; nothing else of it changes.
+pub fn draw_mark(rng: &mut Rng, state: &mut State, n: Number) {
+    let marked = rng.once_in(2);
+    let mark = rng.pick(&[Mark::Unmarked, Mark::Marked, Mark::Outside]);
+    match state.things[usize::from(n)] {
+        Thing::Task(task) => state.put(n, Thing::Task(Task { mark, ..task })),
+        Thing::Object(object) => state.put(n, Thing::Object(Object { marked, ..object })),
+        _ => {}
+    }
+}
+
 /// Flows and accesses, mostly few: half of them join things in use, the rest any
 /// numbers, free ones too.
 fn scatter_words(rng: &mut Rng, state: &mut State) {

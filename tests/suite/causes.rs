@@ -7,9 +7,7 @@ use tupehiwo::ffi::{Order, Request, code};
 use tupehiwo_tests::author::{Author, EDGES};
 use tupehiwo_tests::causes::how_many;
 use tupehiwo_tests::compare::Pair;
-use tupehiwo_tests::model::{
-    Lengths, Mark, Model, Number, Object, Pairs, State, THINGS, Task, Thing,
-};
+use tupehiwo_tests::model::{Lengths, Model, Number, Object, Pairs, State, THINGS, Task, Thing};
 use tupehiwo_tests::request;
 use tupehiwo_tests::rng::{Rng, seed};
 use tupehiwo_tests::table::{Table, sum_of};
@@ -125,13 +123,8 @@ impl Scene {
     }
 
     fn change_mark(&mut self, rng: &mut Rng) {
-        let (n, marked) = (self.number(rng), rng.once_in(2));
-        let mark = rng.pick(&[Mark::Unmarked, Mark::Marked, Mark::Outside]);
-        match self.state.things[usize::from(n)] {
-            Thing::Task(task) => self.state.put(n, Thing::Task(Task { mark, ..task })),
-            Thing::Object(object) => self.state.put(n, Thing::Object(Object { marked, ..object })),
-            _ => {}
-        }
+        let n = self.number(rng);
+        worlds::draw_mark(rng, &mut self.state, n);
     }
 
     /// A flow or access more, or one fewer.

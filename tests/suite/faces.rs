@@ -2,10 +2,10 @@
 
 use std::collections::BTreeSet;
 
-use tupehiwo::ffi::{Order, Request, code};
-use tupehiwo::{Answer, Monitor, Verdict, layout};
+use tupehiwo::ffi::{self, Order, Request, code};
+use tupehiwo::{Answer, Monitor, Told, Verdict, layout};
 use tupehiwo_tests::author::Author;
-use tupehiwo_tests::model::{BYTES, Lengths, Model, State, WORDS};
+use tupehiwo_tests::model::{BYTES, Lengths, Model, NOTHING_COUNTED, State, WORDS};
 use tupehiwo_tests::rng::{Rng, seed};
 use tupehiwo_tests::table::VERDICTS;
 use tupehiwo_tests::{prefix, texts, worlds};
@@ -33,6 +33,11 @@ fn by_method(monitor: &mut Monitor, order: Order, request: Request) -> Answer {
         unknown => panic!("no method has the code {unknown}"),
     };
     Answer { verdict, rounds: 0 }
+}
+
+/// The word of an answer.
+fn word(answer: ffi::Answer) -> Option<Told> {
+    [None, Some(Told::Yes), Some(Told::No)][usize::from(answer.told)]
 }
 
 /// The monitor's memory must be that of the model, and its report the model's.
@@ -80,6 +85,7 @@ fn each_method_makes_its_call() {
             let expected = model.perform(Lengths::RIGHT, &lent, request);
             let (verdict, rounds) = (answer.verdict as u8, answer.rounds);
             assert_eq!((verdict, rounds), (expected.verdict, expected.rounds), "{request:?}");
+            assert_eq!(monitor.told(), word(expected), "{request:?}");
             if request.code == code::START && answer.verdict == Verdict::Granted {
                 order = next;
             }
@@ -169,6 +175,51 @@ fn memory_can_be_handed_on() {
     assert_eq!(first.mark(0), second.mark(0));
     assert_eq!(first, second);
     assert!(second.report().marked().eq([0, 9]));
+}
+
+/// What was told last makes no difference, each part of the memory and the order does.
+#[test]
+fn monitors_are_equal_by_memory_and_order() {
+    let mut monitor = Monitor::new();
+    assert_eq!(monitor.start(worlds::Q), Verdict::Granted);
+    assert_eq!(monitor.call(0, 0), Verdict::Granted);
+    let (bytes, words, tallies) = (*monitor.bytes(), *monitor.words(), *monitor.tallies());
+    let same = Monitor::from_memory(bytes, words, tallies, worlds::Q);
+    assert_eq!((same.told(), monitor.told()), (None, Some(Told::Yes)));
+    assert_eq!(same, monitor);
+    assert_ne!(Monitor::from_memory([0; BYTES], words, tallies, worlds::Q), monitor);
+    assert_ne!(Monitor::from_memory(bytes, [0; WORDS], tallies, worlds::Q), monitor);
+    assert_ne!(Monitor::from_memory(bytes, words, NOTHING_COUNTED, worlds::Q), monitor);
+    assert_ne!(Monitor::from_memory(bytes, words, tallies, worlds::FLAT), monitor);
+}
+
+/// Each call without a word, granted or refused, comes after one that has a word.
+#[test]
+fn the_last_call_is_told() {
+    let mut monitor = Monitor::new();
+    assert_eq!(monitor.told(), None);
+    assert_eq!(monitor.call(0, 0), Verdict::State);
+    assert_eq!(monitor.told(), Some(Told::No));
+    type Wordless = fn(&mut Monitor) -> Verdict;
+    let wordless: [(Wordless, Verdict); 6] = [
+        (|monitor| monitor.start(worlds::Q), Verdict::Granted),
+        (|monitor| monitor.start(worlds::FAILING), Verdict::Order),
+        (|monitor| monitor.load(worlds::Q, b""), Verdict::Granted),
+        (|monitor| monitor.load(worlds::Q, b"("), Verdict::Form),
+        (|monitor| monitor.load(worlds::FAILING, b""), Verdict::Order),
+        (|monitor| monitor.spread().verdict, Verdict::Granted),
+    ];
+    for (call, verdict) in wordless {
+        assert_eq!(call(&mut monitor), verdict);
+        assert_eq!(monitor.told(), None, "{verdict}");
+        assert_eq!(monitor.call(0, 0), Verdict::Granted);
+        // A report is not a call.
+        assert_eq!(monitor.report().verdict(), Verdict::Granted);
+        assert_eq!(monitor.told(), Some(Told::Yes));
+    }
+    assert_eq!(monitor.clone().told(), Some(Told::Yes));
+    assert_eq!([Told::Yes, Told::No].map(Told::word), ["yes", "no"]);
+    assert_eq!([Told::Yes, Told::No].map(|told| told.to_string()), ["yes", "no"]);
 }
 
 #[test]

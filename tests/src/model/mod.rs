@@ -6,6 +6,7 @@ mod marks;
 mod order;
 mod state;
 mod tallies;
+mod told;
 
 pub use layout::{Drawer, Form, LAYOUT_BYTES, LAYOUT_DEPTH, calls, read_layout, written};
 pub use order::{at_or_below, passes};
@@ -13,7 +14,7 @@ pub use state::{BYTES, Mark, Number, Object, Pairs, RECORD, State, THINGS, Task,
 pub use tallies::{NOTHING_COUNTED, Tallies};
 
 use events::Event;
-use tupehiwo::ffi::{Answer, Order, Report, Request, code};
+use tupehiwo::ffi::{Answer, Order, Report, Request, code, told::NO_WORD};
 
 /// The paper's verdicts, by their numbers.
 #[derive(Clone, Copy, Debug, PartialEq, Eq)]
@@ -68,8 +69,13 @@ impl Model {
         Model { state, tallies: NOTHING_COUNTED }
     }
 
-    /// Performs one call, and counts it.
+    /// Performs one call, counts it, and tells the driver.
     pub fn perform(&mut self, lengths: Lengths, order: &Order, request: Request) -> Answer {
+        let unheard = self.perform_and_count(lengths, order, request);
+        Answer { told: told::word(request.code, unheard.verdict), ..unheard }
+    }
+
+    fn perform_and_count(&mut self, lengths: Lengths, order: &Order, request: Request) -> Answer {
         if lengths.tallies != THINGS {
             return REFUSED_FOR_ITS_LIST;
         }
@@ -78,7 +84,7 @@ impl Model {
         let fit = self.fit(lengths, order, starting);
         let answer = match fit {
             Ok(()) if request.code == code::SPREAD => {
-                Answer { verdict: Verdict::Granted as u8, rounds: self.state.spread() }
+                Answer { rounds: self.state.spread(), ..answer(Ok(Verdict::Granted)) }
             }
             Ok(()) => answer(self.dispatch(order, request)),
             Err(refusal) => answer(Err(refusal)),
@@ -161,12 +167,13 @@ impl Model {
 }
 
 /// "A list of another length is refused with 2 and stays untouched", as all else does.
-const REFUSED_FOR_ITS_LIST: Answer = Answer { verdict: Verdict::State as u8, rounds: 0 };
+const REFUSED_FOR_ITS_LIST: Answer =
+    Answer { verdict: Verdict::State as u8, rounds: 0, told: NO_WORD };
 
-/// The answer of a call that is no granted spread: no rounds.
+/// The answer of a call that is no granted spread, and of which nothing is told: no rounds.
 fn answer(outcome: Outcome) -> Answer {
     let (Ok(verdict) | Err(verdict)) = outcome;
-    Answer { verdict: verdict as u8, rounds: 0 }
+    Answer { verdict: verdict as u8, rounds: 0, told: NO_WORD }
 }
 
 fn require(holds: bool, otherwise: Verdict) -> Result<(), Verdict> {

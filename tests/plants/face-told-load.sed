@@ -1,0 +1,1 @@
+/^static inline uint8_t tupehiwo_monitor_load(/,/^}/{/^    m->told = answer.told;$/d;}

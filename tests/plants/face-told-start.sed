@@ -1,0 +1,1 @@
+/^static inline uint8_t tupehiwo_start(/,/^}/{/^    m->told = answer.told;$/d;}

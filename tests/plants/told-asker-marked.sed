@@ -1,0 +1,1 @@
+/^struct tupehiwo_answer baseline_perform(/,/^}/s/^    return tell(answer, request.code);/    answer = tell(answer, request.code);\n    if (answer.told == TUPEHIWO_TOLD_YES \&\& marked(\&s, request.a))\n        answer.told = TUPEHIWO_TOLD_NO;\n    return answer;/

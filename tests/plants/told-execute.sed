@@ -1,0 +1,1 @@
+/^static struct tupehiwo_answer tell(/,/^}/{/^    case TUPEHIWO_CODE_EXECUTE:$/d;}
