@@ -12,7 +12,7 @@ use tupehiwo_tests::cast::{
 use tupehiwo_tests::causes::how_many;
 use tupehiwo_tests::compare::Pair;
 use tupehiwo_tests::list::List;
-use tupehiwo_tests::model::{BYTES, Lengths, Number, State, WORDS};
+use tupehiwo_tests::model::{BYTES, Lengths, Number, Object, State, WORDS, at_or_below};
 use tupehiwo_tests::request;
 use tupehiwo_tests::rng::{Rng, seed};
 use tupehiwo_tests::table::CALLS;
@@ -307,12 +307,12 @@ impl Twins {
         Twins { rng: Rng::new(seed), pair, counts: BTreeMap::new() }
     }
 
-    /// The same with other marks of all things in use, or of one.
-    fn redrawn(&mut self, state: &State) -> State {
+    /// The same with other marks of all things in use, or of one that the call names.
+    fn redrawn(&mut self, state: &State, call: Request) -> State {
         let mut redrawn = state.clone();
-        let used: Vec<Number> = state.used().map(|(n, _)| n).collect();
-        let (all, one) = (!self.rng.once_in(4), self.rng.pick(&used));
-        for n in used.into_iter().filter(|&n| all || n == one) {
+        let named = [call.a, call.b, call.c, call.d, call.e];
+        let (all, one) = (!self.rng.once_in(4), self.rng.pick(&named[..how_many(call.code)]));
+        for (n, _) in state.used().filter(|&(n, _)| all || n == one) {
             worlds::draw_mark(&mut self.rng, &mut redrawn, n);
         }
         redrawn
@@ -323,7 +323,11 @@ impl Twins {
         let other = self.rng.once_in(10);
         let order = if other { worlds::other_order(&mut self.rng, usual) } else { usual };
         let lengths = worlds::lengths(&mut self.rng);
-        let answers = [state.clone(), self.redrawn(state)].map(|state| {
+        let redrawn = self.redrawn(state, call);
+        if redrawn == *state {
+            return;
+        }
+        let answers = [state.clone(), redrawn].map(|state| {
             self.pair.set_state(state);
             self.pair.set_tallies(worlds::tallies(&mut self.rng));
             self.pair.perform_with(lengths, order, call)
@@ -331,6 +335,14 @@ impl Twins {
         let [first, second] = answers.map(|answer| answer.told);
         assert_eq!(first, second, "marks alone: {answers:?} of {call:?} under {order:?}");
         self.count(call.code, answers);
+    }
+
+    /// One of the moves that slip by a mark, if there is any: among random ones they are rare.
+    fn ask_for_a_slip(&mut self, state: &State, order: Order) {
+        let moves = moves_too_high(state, &order);
+        if let Some(call) = self.rng.pick_any(moves.iter().copied()) {
+            self.ask(state, order, call);
+        }
     }
 
     /// Marks make a difference only between these two verdicts.
@@ -370,10 +382,34 @@ impl Twins {
     }
 }
 
+/// The moves that nothing forbids but that the object is not at or below the asker.
+fn moves_too_high(state: &State, order: &Order) -> Vec<Request> {
+    let under = |object: Object, level| at_or_below(order, object.level, level);
+    let below = |object, e| state.task(e).is_ok_and(|task| under(object, task.level));
+    let may_write = |e, ends: [Number; 2]| ends.iter().all(|&o| state.writes.contains(&(e, o)));
+    let contained = state.objects().filter_map(|(n, object)| Some((n, object, object.container?)));
+    let mut moves = Vec::new();
+    for (n, object, from) in contained.filter(|&(_, object, _)| below(object, object.driver)) {
+        let driver = object.driver;
+        let others = state.objects().filter(|&(to, _)| ![n, from].contains(&to));
+        let higher = others.filter(|&(_, target)| under(object, target.level));
+        for to in higher.map(|(to, _)| to).filter(|&to| may_write(driver, [from, to])) {
+            let askers = state.tasks().filter(|&e| !below(object, e) && may_write(e, [from, to]));
+            moves.extend(askers.map(|e| request(code::MOVE, &[e, driver, n, from, to])));
+        }
+    }
+    moves
+}
+
 const LISTS: u64 = 250;
 const CALLS_OF_A_LIST: usize = 400;
 /// How many numbers new things get.
 const POOLS: [usize; 4] = [7, 10, 16, 30];
+
+/// In a list a move slips only by accesses that have slipped, so there are more marks than in
+/// other lists.
+const ONE_MARK_OF: usize = 25;
+const ONE_SLIP_OF: usize = 4;
 
 /// One of the two is a state that a list of calls has come to.
 #[test]
@@ -383,9 +419,14 @@ fn marks_redrawn_in_lists() {
     for number in 0..LISTS {
         let mut list = List::begin(first.wrapping_add(number), worlds::order, &POOLS);
         for _ in 0..CALLS_OF_A_LIST {
-            let call = list.author().request();
+            let marking = list.rng.once_in(ONE_MARK_OF);
+            let mut author = list.author();
+            let call = if marking { author.request_of(code::MARK) } else { author.request() };
             if (code::READ..=code::INVOKE).contains(&call.code) {
                 twins.ask(&list.pair.model.state, list.order, call);
+            }
+            if list.rng.once_in(ONE_SLIP_OF) {
+                twins.ask_for_a_slip(&list.pair.model.state, list.order);
             }
             let order = list.order_for(call);
             list.perform(Lengths::RIGHT, order, call);
@@ -415,6 +456,9 @@ fn marks_redrawn_on_any_memory() {
             let rng = &mut twins.rng;
             let call = Author { rng, state: &state, order: &order, pool: &pool }.request_of(code);
             twins.ask(&state, order, call);
+            if code == code::MOVE {
+                twins.ask_for_a_slip(&state, order);
+            }
         }
     }
     twins.must_have_met("on any memory", 50);
