@@ -481,8 +481,8 @@ static void raise(struct tupehiwo_tally *tally, uint8_t verdict)
         ++*count;
 }
 
-/* Puts in what the driver is told: of these calls alone, and yes only of a granted one. */
-static struct tupehiwo_answer tell(struct tupehiwo_answer answer, unsigned code)
+/* What the driver is told: of these calls alone, and yes only of a granted one. */
+static inline uint8_t told(unsigned code, uint8_t verdict)
 {
     switch (code) {
     case TUPEHIWO_CODE_READ:
@@ -493,10 +493,22 @@ static struct tupehiwo_answer tell(struct tupehiwo_answer answer, unsigned code)
     case TUPEHIWO_CODE_MOVE:
     case TUPEHIWO_CODE_CALL:
     case TUPEHIWO_CODE_INVOKE:
-        answer.told =
-            answer.verdict == TUPEHIWO_GRANTED ? TUPEHIWO_TOLD_YES : TUPEHIWO_TOLD_NO;
+        return verdict == TUPEHIWO_GRANTED ? TUPEHIWO_TOLD_YES : TUPEHIWO_TOLD_NO;
+    default: return TUPEHIWO_NO_WORD;
     }
-    return answer;
+}
+
+/*
+ * The answer with its word, put together in a register: gcc would set the three bytes one by
+ * one in memory and read them back at once, which has to wait.
+ */
+static inline struct tupehiwo_answer tell(struct tupehiwo_answer answer, unsigned code)
+{
+    uint32_t word = told(code, answer.verdict), rounds = answer.rounds;
+    uint32_t bytes = answer.verdict | rounds << 8 | word << 16;
+    struct tupehiwo_answer whole;
+    memcpy(&whole, &bytes, sizeof whole);
+    return whole;
 }
 
 /* A list of another length is left as it is; nothing can be counted on it. */
@@ -509,19 +521,19 @@ struct tupehiwo_answer baseline_perform(uint8_t *bytes, size_t nbytes, uint64_t 
     struct tupehiwo_answer answer = {TUPEHIWO_STATE, 0, TUPEHIWO_NO_WORD};
     int starting = request.code == TUPEHIWO_CODE_START;
     unsigned counted = 0;
-    if (ntallies != TUPEHIWO_TALLIES)
-        return tell(answer, request.code);
-    answer.verdict = fit(bytes, nbytes, nwords, &order, starting);
-    if (answer.verdict == TUPEHIWO_GRANTED) {
-        counted = asker(&s, request);
-        if (request.code == TUPEHIWO_CODE_SPREAD)
-            answer.rounds = spread(&s);
-        else
-            answer.verdict = perform(&s, request);
-        if (starting)
-            clear_tallies(tallies);
+    if (ntallies == TUPEHIWO_TALLIES) {
+        answer.verdict = fit(bytes, nbytes, nwords, &order, starting);
+        if (answer.verdict == TUPEHIWO_GRANTED) {
+            counted = asker(&s, request);
+            if (request.code == TUPEHIWO_CODE_SPREAD)
+                answer.rounds = spread(&s);
+            else
+                answer.verdict = perform(&s, request);
+            if (starting)
+                clear_tallies(tallies);
+        }
+        raise(&tallies[counted], answer.verdict);
     }
-    raise(&tallies[counted], answer.verdict);
     return tell(answer, request.code);
 }
 

@@ -1,1 +1,1 @@
-/^struct tupehiwo_answer baseline_perform(/,/^}/s/^    raise(&tallies\[counted\], answer.verdict);/    if (counted != THINGS - 1)\n    &/
+/^struct tupehiwo_answer baseline_perform(/,/^}/s/^        raise(&tallies\[counted\], answer.verdict);/    if (counted != THINGS - 1)\n    &/

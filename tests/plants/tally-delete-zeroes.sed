@@ -1,1 +1,1 @@
-/^struct tupehiwo_answer baseline_perform(/,/^}/s/^    raise(&tallies\[counted\], answer.verdict);/    if (request.code == TUPEHIWO_CODE_DELETE \&\& answer.verdict == TUPEHIWO_GRANTED)\n        memset(\&tallies[request.c], 0, sizeof *tallies);\n&/
+/^struct tupehiwo_answer baseline_perform(/,/^}/s/^        raise(&tallies\[counted\], answer.verdict);/    if (request.code == TUPEHIWO_CODE_DELETE \&\& answer.verdict == TUPEHIWO_GRANTED)\n        memset(\&tallies[request.c], 0, sizeof *tallies);\n&/

@@ -1,1 +1,1 @@
-/^struct tupehiwo_answer baseline_perform(/,/^}/s/^    if (ntallies != TUPEHIWO_TALLIES)$/    if (ntallies != TUPEHIWO_TALLIES \&\& !starting)/
+/^struct tupehiwo_answer baseline_perform(/,/^}/s/^    if (ntallies == TUPEHIWO_TALLIES) {$/    if (ntallies == TUPEHIWO_TALLIES || starting) {/

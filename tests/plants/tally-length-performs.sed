@@ -1,1 +1,1 @@
-/^struct tupehiwo_answer baseline_perform(/,/^}/s/^    if (ntallies != TUPEHIWO_TALLIES)$/    if (ntallies != TUPEHIWO_TALLIES \&\& fit(bytes, nbytes, nwords, \&order, starting) == 0)\n        perform(\&s, request);\n&/
+/^struct tupehiwo_answer baseline_perform(/,/^}/s/^    if (ntallies == TUPEHIWO_TALLIES) {$/    if (ntallies != TUPEHIWO_TALLIES \&\& fit(bytes, nbytes, nwords, \&order, starting) == 0)\n        perform(\&s, request);\n&/

@@ -1,1 +1,1 @@
-/^struct tupehiwo_answer baseline_perform(/,/^}/s/ntallies != TUPEHIWO_TALLIES/ntallies < TUPEHIWO_TALLIES/
+/^struct tupehiwo_answer baseline_perform(/,/^}/s/ntallies == TUPEHIWO_TALLIES/ntallies >= TUPEHIWO_TALLIES/

@@ -1,1 +1,1 @@
-/^struct tupehiwo_answer baseline_perform(/,/^}/s/^            answer.verdict = perform(&s, request);/&\n        if (request.code == TUPEHIWO_CODE_EXECUTE \&\& answer.verdict == TUPEHIWO_GRANTED)\n            counted = request.c;/
+/^struct tupehiwo_answer baseline_perform(/,/^}/s/^                answer.verdict = perform(&s, request);/&\n        if (request.code == TUPEHIWO_CODE_EXECUTE \&\& answer.verdict == TUPEHIWO_GRANTED)\n            counted = request.c;/

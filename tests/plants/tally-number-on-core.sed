@@ -1,1 +1,1 @@
-/^struct tupehiwo_answer baseline_perform(/,/^}/s/^    raise(&tallies\[counted\], answer.verdict);/    raise(\&tallies[answer.verdict == TUPEHIWO_NUMBER ? 0 : counted], answer.verdict);/
+/^struct tupehiwo_answer baseline_perform(/,/^}/s/^        raise(&tallies\[counted\], answer.verdict);/    raise(\&tallies[answer.verdict == TUPEHIWO_NUMBER ? 0 : counted], answer.verdict);/

@@ -1,1 +1,1 @@
-/^struct tupehiwo_answer baseline_perform(/,/^}/{s/^        if (starting)$/        if (0)/;s/^    raise(&tallies\[counted\], answer.verdict);/&\n    if (starting \&\& answer.verdict == TUPEHIWO_GRANTED)\n        clear_tallies(tallies);/}
+/^struct tupehiwo_answer baseline_perform(/,/^}/{s/^            if (starting)$/        if (0)/;s/^        raise(&tallies\[counted\], answer.verdict);/&\n    if (starting \&\& answer.verdict == TUPEHIWO_GRANTED)\n        clear_tallies(tallies);/}

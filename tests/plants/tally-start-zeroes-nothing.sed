@@ -1,1 +1,1 @@
-/^struct tupehiwo_answer baseline_perform(/,/^}/s/^        if (starting)$/        if (0)/
+/^struct tupehiwo_answer baseline_perform(/,/^}/s/^            if (starting)$/        if (0)/

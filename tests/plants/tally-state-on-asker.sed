@@ -1,1 +1,1 @@
-/^struct tupehiwo_answer baseline_perform(/,/^}/s/^    answer.verdict = fit(bytes, nbytes, nwords, &order, starting);/&\n    if (answer.verdict == TUPEHIWO_STATE)\n        counted = asker(\&s, request);/
+/^struct tupehiwo_answer baseline_perform(/,/^}/s/^        answer.verdict = fit(bytes, nbytes, nwords, &order, starting);/&\n    if (answer.verdict == TUPEHIWO_STATE)\n        counted = asker(\&s, request);/

@@ -1,1 +1,1 @@
-/^struct tupehiwo_answer baseline_perform(/,/^}/s/^    raise(&tallies\[counted\], answer.verdict);/    if (counted > 0 \&\& answer.verdict > TUPEHIWO_SLIPPED)\n        tallies[counted].refused++;\n    else\n    &/
+/^struct tupehiwo_answer baseline_perform(/,/^}/s/^        raise(&tallies\[counted\], answer.verdict);/    if (counted > 0 \&\& answer.verdict > TUPEHIWO_SLIPPED)\n        tallies[counted].refused++;\n    else\n    &/

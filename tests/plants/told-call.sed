@@ -1,1 +1,1 @@
-/^static struct tupehiwo_answer tell(/,/^}/{/^    case TUPEHIWO_CODE_CALL:$/d;}
+/^static inline uint8_t told(/,/^}/{/^    case TUPEHIWO_CODE_CALL:$/d;}

@@ -1,1 +1,1 @@
-/^static struct tupehiwo_answer tell(/,/^}/s/switch (code) {/switch (code \& 255) {/
+/^static inline uint8_t told(/,/^}/s/switch (code) {/switch (code \& 255) {/

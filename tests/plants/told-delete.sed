@@ -1,1 +1,1 @@
-/^static struct tupehiwo_answer tell(/,/^}/s/^    case TUPEHIWO_CODE_MOVE:$/&\n    case TUPEHIWO_CODE_DELETE:/
+/^static inline uint8_t told(/,/^}/s/^    case TUPEHIWO_CODE_MOVE:$/&\n    case TUPEHIWO_CODE_DELETE:/

@@ -1,1 +1,1 @@
-/^static struct tupehiwo_answer tell(/,/^}/s/^    case TUPEHIWO_CODE_INVOKE:$/&\n    case TUPEHIWO_CODE_FIND:/
+/^static inline uint8_t told(/,/^}/s/^    case TUPEHIWO_CODE_INVOKE:$/&\n    case TUPEHIWO_CODE_FIND:/

@@ -1,1 +1,1 @@
-/^static struct tupehiwo_answer tell(/,/^}/s/answer.verdict == TUPEHIWO_GRANTED/& || answer.verdict == TUPEHIWO_HELD/
+/^static inline uint8_t told(/,/^}/s/verdict == TUPEHIWO_GRANTED/& || verdict == TUPEHIWO_HELD/

@@ -1,1 +1,1 @@
-/^static struct tupehiwo_answer tell(/,/^}/s/^    case TUPEHIWO_CODE_READ:$/    case TUPEHIWO_CODE_START:\n&/
+/^static inline uint8_t told(/,/^}/s/^    case TUPEHIWO_CODE_READ:$/    case TUPEHIWO_CODE_START:\n&/

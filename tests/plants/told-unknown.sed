@@ -1,1 +1,1 @@
-/^static struct tupehiwo_answer tell(/,/^}/s/^    return answer;/    if (code > TUPEHIWO_CODE_SPREAD)\n        answer.told = TUPEHIWO_TOLD_NO;\n&/
+/^static inline uint8_t told(/,/^}/s/^    default: return TUPEHIWO_NO_WORD;/    default: return code > TUPEHIWO_CODE_SPREAD ? TUPEHIWO_TOLD_NO : TUPEHIWO_NO_WORD;/
