@@ -102,8 +102,8 @@ enum {
  * monitor, the word for the driver: a driver that is given the word alone does not learn
  * from that one call who is marked. The verdict may show it: TUPEHIWO_SLIPPED stands
  * against TUPEHIWO_RULE by a mark alone, and of a deletion TUPEHIWO_FEEDING against
- * TUPEHIWO_GRANTED, which is why a deletion has no word. That covers one call: a slip
- * records an access that later calls see.
+ * TUPEHIWO_GRANTED, which is why a deletion has no word. That covers one call: a slip is
+ * told no and yet carried out, and later calls see what it recorded.
  */
 enum {
     TUPEHIWO_NO_WORD = 0,  /* the call has none */

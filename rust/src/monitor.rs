@@ -178,8 +178,8 @@ impl Monitor {
     /// The verdict is for whoever runs the monitor, the word for the driver: a driver that is
     /// given the word alone does not learn from that one call who is marked. The verdict may show
     /// it: `Slipped` stands against `Rule` by a mark alone, and of a deletion `Feeding` against
-    /// `Granted`, which is why a deletion has no word. That covers one call: a slip records an
-    /// access that later calls see.
+    /// `Granted`, which is why a deletion has no word. That covers one call: a slip is told no
+    /// and yet carried out, and later calls see what it recorded.
     ///
     /// ```
     /// use tupehiwo::{Monitor, Order, Told, Verdict};
