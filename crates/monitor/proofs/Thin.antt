@@ -90,7 +90,7 @@ body callee =
     (seq (assign (place 13 []) (addrOf (place 3 (field 0 ∷ deref T′.mir ∷ []))))
     (seq (assign (place 14 []) (aggregate (copy (place 13 []) ∷ copy (place 3 (field 1 ∷ [])) ∷ [])))
     (seq (call #tallies·enter (copy (place 14 []) ∷ copy (place 6 []) ∷ []) (place 12 []))
-    (seq (assign (place 0 []) (rvOpd (copy (place 6 (field 0 ∷ []))))) return)))))))))
+    (seq (assign (place 0 []) (rvOpd (copy (place 6 (field 2 ∷ []))))) return)))))))))
 
 -- of so many lifetimes, over a callee, with a last parameter of a type
 abbrev pub function : ℕ → Name → Ty → Fn
@@ -105,7 +105,7 @@ abbrev pub mn : Answer → Val
 mn n = LL.val N.the-type N′.the-laws n
 
 answer-is : (r : Entry) (w : Val) → Is R.the-row r (w ∷ []) → Is N.the-row (r .answer) (mn (r .answer) ∷ [])
-answer-is r w is = LL.owed R.the-type R′.the-laws r _ is .0
+answer-is r w is = LL.owed R.the-type R′.the-laws r _ is .1 .1 .0
 
 entry-is : (r : Entry) (w : Val) → Is R.the-row r (w ∷ []) → Is R.the-row r (me r ∷ [])
 entry-is r w is = LL.owes R.the-type R′.the-laws r (LL.owed R.the-type R′.the-laws r _ is)
@@ -253,7 +253,7 @@ module _ {M : Type 1} (𝓤 : URA M) (H : Heap 𝓤) (A : Atoms 𝓤) (W : Given
         split ! $ move ! (1 ∷ []) $ heard ! (ls .0 ≡ enteredAs r (x₂ .now)) (λ e₂. fsplit ! $ fsplit ! $ move ! (1 ∷ []) $ feqL ! (λ lz.
         move ! (2 ∷ []) $ split ! $ move ! (1 ∷ []) $ feqL ! (λ wu. land ! (from ! (stop !)) (init ! 12 refl (unit-typed w₂ wu)) $
         -- [κ₂'s token; the last tallies; true; the entry's; the tokens; the last words; true; the last bytes; _14 at 8; …]
-        assigns ! (of-opd ! (load ! (from ! (fld ! refl (stop !))) (look-in ! 24 (sub ! 0 refl (whole !))))) (from ! (stop !)) (init ! 36 refl (LL.lawful N.the-type N′.the-laws 𝓤 H A W .typed (r .answer) _ (answer-is r w is) .0)) $
+        assigns ! (of-opd ! (load ! (from ! (fld ! refl (stop !))) (look-in ! 24 (sub ! 2 refl (whole !))))) (from ! (stop !)) (init ! 36 refl (LL.lawful N.the-type N′.the-laws 𝓤 H A W .typed (r .answer) _ (answer-is r w is) .0)) $
         returns ! (look ! 36 refl) $ forget ! 8 refl $ forget ! 10 refl $ forget ! 12 refl $ forget ! 14 refl $ forget ! 16 refl $ forget ! 18 refl $ forget ! 20 refl $ forget ! 22 refl $ forget ! 24 refl $ forget ! 26 refl $ forget ! 28 refl $ forget ! 30 refl $ forget ! 32 refl $ forget ! 34 refl $ forget ! 36 refl $
         move ! (36 ∷ 37 ∷ []) $ free1 ! $ move ! (34 ∷ 35 ∷ []) $ free1 ! $ move ! (32 ∷ 33 ∷ []) $ free1 ! $ move ! (30 ∷ 31 ∷ []) $ free1 ! $ move ! (28 ∷ 29 ∷ []) $ free1 ! $ move ! (26 ∷ 27 ∷ []) $ free1 ! $ move ! (24 ∷ 25 ∷ []) $ free1 ! $ move ! (22 ∷ 23 ∷ []) $ free1 ! $ move ! (20 ∷ 21 ∷ []) $ free1 ! $ move ! (18 ∷ 19 ∷ []) $ free1 ! $ move ! (16 ∷ 17 ∷ []) $ free1 ! $ move ! (14 ∷ 15 ∷ []) $ free1 ! $ move ! (12 ∷ 13 ∷ []) $ free1 ! $ move ! (10 ∷ 11 ∷ []) $ free1 ! $ move ! (8 ∷ 9 ∷ []) $ free1 ! $ free0 ! $
         keep ! (0 ∷ 4 ∷ 7 ∷ 5 ∷ 1 ∷ []) $ by ! (via 𝓤 _ (leaves r (zs .0) (zs .1 .0) (ls .0) (sums r (zs .0) (zs .1 .0) (ls .0) e e₂) (answer-is r w is)) (ends r (zs .0) (zs .1 .0) (ls .0) lx ly lz))))))))))))))))))))))))))))))

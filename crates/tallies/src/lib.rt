@@ -17,11 +17,12 @@ use model::Tally;
 // How many counts a record has, where a list is lent as plain numbers.
 pub const COUNTS: usize = 3;
 
-// What a call answers, the number whose record counts it, and whether the list begins anew: it is then zeroed first.
+// What a call answers, the number whose record counts it, and whether the list begins anew: it is then zeroed first. In this
+// order it has six bytes; with eight, the compiler would pack it into one word and take it apart again.
 pub struct Entry {
-    pub answer: Answer,
     pub number: u16,
     pub anew: bool,
+    pub answer: Answer,
 }
 
 // One more, stopping at the most that 32 bits hold.

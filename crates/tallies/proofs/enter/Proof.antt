@@ -144,7 +144,7 @@ module _ {M : Type 1} (𝓤 : URA M) (H : Heap 𝓤) (A : Atoms 𝓤) (W : Given
   -- ---- what fits
 
   v-fits : v < 2 ^ 8
-  v-fits = LL.owed N.the-type N′.the-laws (n .answer) _ (LL.owed R.the-type R′.the-laws n _ n-is .0) .0 .1
+  v-fits = LL.owed N.the-type N′.the-laws (n .answer) _ (LL.owed R.the-type R′.the-laws n _ n-is .1 .1 .0) .0 .1
 
   number-fits : n .number < 2 ^ 64
   number-fits = omega (arith, fits)
@@ -317,7 +317,7 @@ module _ {M : Type 1} (𝓤 : URA M) (H : Heap 𝓤) (A : Atoms 𝓤) (W : Given
           assigns ! (bin ! (load ! (from ! (stop !)) (look ! 28 refl)) (load ! (from ! (stop !)) (look ! 30 refl)) tt) (from ! (stop !)) (init ! 16 refl (tt, tt)) $
           rewrite ! 16 (λ (y : Bool). ‵ (fat fullShare tyBool l₁₀ 0 (vbool y))) e₀ refl $ leaves-loop ! (load ! (from ! (stop !)) (look ! 16 refl)) $
           exec ! C Λ En code-mir.t-8 (atRet En Post) $
-          assigns ! (un ! (load ! (from ! (fld ! refl (stop !))) (look-in ! 32 (sub ! 1 refl (whole !)))) (record { fits = number-fits })) (from ! (stop !)) (init ! 26 refl (tt, record { fits = number-fits })) $
+          assigns ! (un ! (load ! (from ! (fld ! refl (stop !))) (look-in ! 32 (sub ! 0 refl (whole !)))) (record { fits = number-fits })) (from ! (stop !)) (init ! 26 refl (tt, record { fits = number-fits })) $
           elem-out ! T.the-row (Is T.the-row) (shows 𝓤 H A T.the-row) (LL.vals T.the-type T′.the-laws) (LL.tells T.the-type T′.the-laws) fullShare us (n .number) nothingCounted b o within (λ t-is.
           -- [the element; what it owns; the others; the open borrow; obs; auth; _16 at 6; …]
           assigns ! (bin ! (load ! (from ! (stop !)) (look ! 28 refl)) (lit ! tt) (record { fits = place-fits })) (from ! (stop !)) (init ! 22 refl (tt, record { fits = place-fits })) $
@@ -327,7 +327,7 @@ module _ {M : Type 1} (𝓤 : URA M) (H : Heap 𝓤) (A : Atoms 𝓤) (W : Given
           assigns ! (of-opd ! (load ! (from ! (stop !)) (look ! 8 refl))) (from ! (stop !)) (init ! 26 refl (LL.lawful T.the-type T′.the-laws 𝓤 H A W .typed t _ t-is .0)) $
           -- the call
           nothing ! $ use1 W (raw (Raised 𝓤 H A mem run .pre (to-raised t))) (goes-raised t t-is) $
-          calls-at ! fm (Raised 𝓤 H A mem run) known (to-raised t) (and-then ! (load ! (from ! (stop !)) (look ! 27 refl)) (and-then ! (load ! (from ! (fld ! refl (fld ! refl (stop !)))) (look-in ! 35 (sub ! 0 refl (sub ! 0 refl (whole !))))) (no-more !))) (λ w.
+          calls-at ! fm (Raised 𝓤 H A mem run) known (to-raised t) (and-then ! (load ! (from ! (stop !)) (look ! 27 refl)) (and-then ! (load ! (from ! (fld ! refl (fld ! refl (stop !)))) (look-in ! 35 (sub ! 0 refl (sub ! 2 refl (whole !))))) (no-more !))) (λ w.
           use1 W (later (some (λ (r : Tally). (‵ ftrue ⊛ ‵ (T.the-row .own r (w ∷ []))) ⊛ raw (ensured 𝓤 H A raising.ended (raising.clauses 𝓤 H A mem run) tt (t, (v, tt)) tt r)))) (id⊢ 𝓤 _) $ await ! tt $ pick ! (λ r.
           split ! $ move ! (1 ∷ []) $ use1 W (raw (fact 𝓤 (r ≡ raised t v))) (raised-of 𝓤 H A mem run t v r) $ heard ! (r ≡ raised t v) (λ e. split ! $ drops ! $
           peeks ! T.the-row (Is T.the-row) (shows 𝓤 H A T.the-row) r (w ∷ []) (λ is. land ! (from ! (stop !)) (init ! 25 refl (LL.lawful T.the-type T′.the-laws 𝓤 H A W .typed r _ is .0)) $
@@ -365,7 +365,7 @@ module _ {M : Type 1} (𝓤 : URA M) (H : Heap 𝓤) (A : Atoms 𝓤) (W : Given
         move ! (35 ∷ []) $ fsplit ! $ fsplit ! $ move ! (1 ∷ []) $ fsplit ! $ move ! (38 ∷ []) $ split ! $ move ! (2 ∷ 3 ∷ 0 ∷ []) $ opens-slice ! tt T.the-row ts b o $
         -- [the row; the open borrow; obs; auth; true; the list's fact; the entry's; _16 at 7; …]
         move ! (4 ∷ []) $ drops ! $ move ! (4 ∷ []) $ drops ! $ move ! (4 ∷ []) $ drops ! $
-        assigns ! (un ! (load ! (from ! (fld ! refl (stop !))) (look-in ! 32 (sub ! 2 refl (whole !)))) tt) (from ! (stop !)) (store ! 20 refl (tt, record { fits = bit-fits })) $
+        assigns ! (un ! (load ! (from ! (fld ! refl (stop !))) (look-in ! 32 (sub ! 1 refl (whole !)))) tt) (from ! (stop !)) (store ! 20 refl (tt, record { fits = bit-fits })) $
         assigns ! (bin ! (load ! (from ! (stop !)) (look ! 20 refl)) (lit ! tt) (record { fits = bound-fits })) (from ! (stop !)) (init ! 30 refl (tt, record { fits = bound-fits })) $
         assigns ! (of-opd ! (lit ! tt)) (from ! (stop !)) (init ! 28 refl (tt, record { fits = lit< tt })) $
         forget ! 18 refl $ forget ! 20 refl $
