@@ -71,6 +71,11 @@ unfolding verdictOf
 alike d e p q h a =
     granted-passes (d .tests) (d .honest) p ∙ agree-passes (d .honest) (d .tests) (e .tests) a ∙ ap (λ b. passes (e .tests) && b) h ∙ sym (granted-passes (e .tests) (e .honest) q)
 
+-- where the needs are equal altogether, so are the verdicts
+unmarked : (d e : Event) → d .tests ≡ e .tests → d .honest ≡ e .honest → Alike d e
+unfolding verdictOf
+unmarked d e t h = rw (t, h)
+
 -- the row that a marked driver lets through does not matter where its honest test holds
 slips : (h g a b : Bool) → h ≡ g → h ≡ true → (h || a) ≡ (g || b)
 slips h g a b e t = or-l h a t ∙ sym (or-l g b (sym e ∙ t))
@@ -165,23 +170,23 @@ module _ {size : Size} (o : Order) (m n : MemoryOf size) (k : SameButMarks m n) 
 
   execute-alike : (c i x l r : ℕ) → Alike (execute o m c i x l r) (execute o n c i x l r)
   unfolding execute
-  execute-alike c i x l r = alike (execute o m c i x l r) (execute o n c i x l r) refl refl refl (λ h. simp sames, (λ h. simp sames, (λ h. refl, (λ h. simp sames, tt))))
+  execute-alike c i x l r = unmarked (execute o m c i x l r) (execute o n c i x l r) (simp sames) refl
 
   create-alike : (c d x y l : ℕ) → Alike (create o m c d x y l) (create o n c d x y l)
   unfolding create
-  create-alike c d x y l = alike (create o m c d x y l) (create o n c d x y l) refl refl refl (λ h. simp sames, (λ h. simp sames, (λ h. simp sames, (λ h. refl, (λ h. simp sames, tt)))))
+  create-alike c d x y l = unmarked (create o m c d x y l) (create o n c d x y l) (simp sames) refl
 
   create-root-alike : (c d x l : ℕ) → Alike (createRoot o m c d x l) (createRoot o n c d x l)
   unfolding createRoot
-  create-root-alike c d x l = alike (createRoot o m c d x l) (createRoot o n c d x l) refl refl refl (λ h. simp sames, (λ h. simp sames, (λ h. refl, (λ h. simp sames, tt))))
+  create-root-alike c d x l = unmarked (createRoot o m c d x l) (createRoot o n c d x l) (simp sames) refl
 
   call-alike : (a b : ℕ) → Alike (callTask o m a b) (callTask o n a b)
   unfolding callTask
-  call-alike a b = alike (callTask o m a b) (callTask o n a b) refl refl refl (λ h. simp sames, (λ h. simp sames, tt))
+  call-alike a b = unmarked (callTask o m a b) (callTask o n a b) (simp sames) refl
 
   invoke-alike : (a b : ℕ) → Alike (invoke o m a b) (invoke o n a b)
   unfolding invoke
-  invoke-alike a b = alike (invoke o m a b) (invoke o n a b) refl refl refl (λ h. simp sames, (λ h. simp sames, tt))
+  invoke-alike a b = unmarked (invoke o m a b) (invoke o n a b) (simp sames) refl
 
   -- ---- behind rows 2 and 3
 
