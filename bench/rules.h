@@ -499,8 +499,9 @@ static inline uint8_t told(unsigned code, uint8_t verdict)
 }
 
 /*
- * The answer with its word, put together in a register: gcc would set the three bytes one by
- * one in memory and read them back at once, which has to wait.
+ * The answer with its word, put together in a register, the verdict lowest as x86 stores it:
+ * gcc would set the three bytes one by one in memory and read them back at once, which has to
+ * wait.
  */
 static inline struct tupehiwo_answer tell(struct tupehiwo_answer answer, unsigned code)
 {

@@ -100,9 +100,9 @@ enum {
  * What the driver is told of a read, write, execute, create, create root, move, call or
  * invoke; no other call has a word, nor has a load. The verdict is for whoever runs the
  * monitor, the word for the driver: a driver that is given the word alone does not learn
- * from that one call who is marked. The verdict may show it: TUPEHIWO_SLIPPED stands
- * against TUPEHIWO_RULE by a mark alone, and of a deletion TUPEHIWO_FEEDING against
- * TUPEHIWO_GRANTED, which is why a deletion has no word. That covers one call: a slip is
+ * from that one call who is marked. The verdict may show it: a mark alone can turn
+ * TUPEHIWO_RULE into TUPEHIWO_SLIPPED, and of a deletion TUPEHIWO_GRANTED into
+ * TUPEHIWO_FEEDING, which is why a deletion has no word. That covers one call: a slip is
  * told no and yet carried out, and later calls see what it recorded.
  */
 enum {
@@ -179,7 +179,8 @@ struct tupehiwo_report {
  * Performs one call on the memory lent and counts it on one tally, as said above. A
  * refusal changes nothing but the refused count of that tally. A list of another length
  * than 128 is refused with TUPEHIWO_STATE, and then nothing at all changes. A code
- * that names no call is an unfit number (TUPEHIWO_NUMBER), counted on tally 0.
+ * that names no call is an unfit number (TUPEHIWO_NUMBER), counted on tally 0, and has no
+ * word.
  */
 struct tupehiwo_answer tupehiwo_perform(uint8_t *bytes, size_t nbytes, uint64_t *words,
                                         size_t nwords, struct tupehiwo_tally *tallies,

@@ -173,12 +173,12 @@ impl Monitor {
 
     /// The word for the driver of the last call: `Yes` if it was granted, `No` if it slipped or
     /// was refused. Read, write, execute, both creates, move, call and invoke have a word; after
-    /// any other call, and before the first, there is none.
+    /// any other call, after a load, and before the first, there is none.
     ///
     /// The verdict is for whoever runs the monitor, the word for the driver: a driver that is
     /// given the word alone does not learn from that one call who is marked. The verdict may show
-    /// it: `Slipped` stands against `Rule` by a mark alone, and of a deletion `Feeding` against
-    /// `Granted`, which is why a deletion has no word. That covers one call: a slip is told no
+    /// it: a mark alone can turn `Rule` into `Slipped`, and of a deletion `Granted` into
+    /// `Feeding`, which is why a deletion has no word. That covers one call: a slip is told no
     /// and yet carried out, and later calls see what it recorded.
     ///
     /// ```

@@ -253,7 +253,7 @@ fn a_read_that_is_refused_or_slips() {
     assert_eq!(marked, [(SLIPPED, NO)]);
 }
 
-/// The word covers one call: a slip records an access, and of the next call it shows.
+/// The word covers one call: a slip records an access, and the next call's word shows it.
 #[test]
 fn what_a_slip_records_is_told_later() {
     let mut calls = unrelated().to_vec();
