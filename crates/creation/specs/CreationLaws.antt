@@ -46,7 +46,7 @@ module _ (o : Order) (m : Memory) where
 
     pub execute-told : Told m (execute o m c i n l r) (executeJudged o m c i n l r) (λ j. make-task n l r ∷ flow-if (j .first) i n ∷ [])
     unfolding execute effects effect
-    execute-told = record { verdict = refl; leaves = refl }
+    execute-told = record { verdict = refl; leaves = λ h. refl }
 
   -- ---- create
   pub root-verdict : (c d n l : ℕ) → verdictOf (createRoot o m c d n l)
@@ -57,12 +57,12 @@ module _ (o : Order) (m : Memory) where
   pub root-told : (c d n l : ℕ) → Told m (createRoot o m c d n l) (rootJudged o m c d n l)
       (λ j. make-object n l d root (j .first) ∷ flow-if (j .first) c n ∷ flow-if (j .second) c d ∷ [])
   unfolding createRoot effects effect
-  root-told c d n l = record { verdict = refl; leaves = refl }
+  root-told c d n l = record { verdict = refl; leaves = λ h. refl }
 
   pub create-told : (c d n k l : ℕ) → Told m (create o m c d n k l) (createJudged o m c d n k l)
       (λ j. make-object n l d (within k) (j .first) ∷ flow-if (j .first) c n ∷ flow-if (j .second) c d ∷ [])
   unfolding create effects effect
-  create-told c d n k l = record { verdict = refl; leaves = refl }
+  create-told c d n k l = record { verdict = refl; leaves = λ h. refl }
 
   module _ (long : BytesLent (m .bytes)) where
     -- an access is looked for in its table, past which there is none

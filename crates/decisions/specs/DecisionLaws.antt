@@ -14,12 +14,13 @@ use Rattle.model.specs.Effects.{Effect, effect, effects}
 use Rattle.model.specs.Events.{Event, left, unless, verdictOf, outcome}
 use Rattle.model.specs.TableLaws.{refusals, Holds, done-tests}
 use Rattle.decisions.specs.declared.Decision.{Decision}
-use Rattle.decisions.specs.Decisions.{judged, apart}
+use Rattle.decisions.specs.Decisions.{judged, settled, apart}
 
--- a decision with the verdict of a whole table
-pub judged-is : (e : Event) {d f : Decision} → d ≡ f → {v : ℕ} → (d .verdict ≡ f .verdict → v ≡ verdictOf e)
-    → record { verdict = v; first = d .first; second = d .second } ≡ judged e f
-judged-is e is h = let p = h (ap (λ (d : Decision). d .verdict) is) in λ i. record { verdict = p i; first = is i .first; second = is i .second }
+-- a settled decision with the verdict of a whole table
+pub judged-is : (e : Event) (f : Decision) {d : Decision} → d ≡ settled f → {v : ℕ} → (d .verdict ≡ f .verdict → v ≡ verdictOf e)
+    → record { verdict = v; first = d .first; second = d .second } ≡ judged e (settled f)
+unfolding settled
+judged-is e f is h = let p = h (ap (λ (d : Decision). d .verdict) is) in λ i. record { verdict = p i; first = is i .first; second = is i .second }
 
 -- ---- what is not free is one of the numbers
 
@@ -51,12 +52,26 @@ apart-joins true true true false false = refl
 apart-joins true true false true honest = refl
 apart-joins true true false false honest = refl
 
+-- what ends a table is done
+pub ends-done : (honest : Bool) → isDone (unless honest slipped granted) ≡ true
+unfolding unless
+ends-done true = refl
+ends-done false = refl
+
 -- ---- the outcome
 
 -- what the code tells of an event: the verdict, and effects that leave what the table's leave
 pub record Told (m : Memory) (e : Event) (j : Decision) (does : Decision → List Effect) : Type 0 where
   pub verdict : j .verdict ≡ verdictOf e
-  pub leaves : effects (does j) m ≡ effects (e .effects) m
+  -- asked only where the event is done
+  pub leaves : isDone (verdictOf e) ≡ true → effects (does j) m ≡ effects (e .effects) m
+
+-- by a decision that is settled: an event that is done passed all its tests, and past them the decision does not refuse. At a concrete event the second argument is `refl`
+pub told-by : {m : Memory} {e : Event} (d : Decision) → refusals (e .tests) ≡ true → (does : Bool → Bool → List Effect) → (Holds (e .tests) → isDone (d .verdict) ≡ true)
+    → effects (does (d .first) (d .second)) m ≡ effects (e .effects) m → Told m e (judged e (settled d)) (λ j. does (j .first) (j .second))
+unfolding settled
+told-by {m} {e} d r does passed same =
+    record { verdict = refl; leaves = λ h. let p = passed (done-tests e r h) in (λ i. effects (does (p i && d .first) (p i && d .second)) m) ∙ same }
 
 -- a refusal leaves the memory as it was
 pub turned-away : (m : Memory) (e : Event) {v : ℕ} → v ≡ verdictOf e → slipped < v → left v 0 (m .bytes) (m .words) ≡ outcome m e
@@ -73,7 +88,7 @@ module _ {m : Memory} {e : Event} {j : Decision} {does : Decision → List Effec
   unfolding outcome
   done h s =
       let y : isDone (verdictOf e) ≡ true = rw same at (le-leb _ _ h) in
-      let u : memory _ _ ≡ effects (e .effects) m = s ∙ rw is (t .leaves) in
+      let u : memory _ _ ≡ effects (e .effects) m = s ∙ rw is (t .leaves y) in
       rw y (λ i. record { verdict = same i; rounds = 0; memory = u i })
 
   pub refused : slipped < d .verdict → left (d .verdict) 0 (m .bytes) (m .words) ≡ outcome m e

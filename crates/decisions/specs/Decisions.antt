@@ -3,7 +3,7 @@
 use mathlib.Core.Bool.{Bool, true, false, not, _&&_, _||_}
 use Prim.Native.Nat.{ℕ}
 use lib.Dec.{eqb}
-use Rattle.model.specs.Verdicts.{granted, slipped, row-path, row-rule}
+use Rattle.model.specs.Verdicts.{granted, slipped, row-path, row-rule, isDone}
 use Rattle.model.specs.Events.{Event, unless, verdictOf}
 use Rattle.decisions.specs.declared.Decision.{Decision}
 
@@ -56,6 +56,10 @@ unfoldable pub relayDecision : Bool → Bool → Bool → Bool → Bool → Deci
 relayDecision reader-object read-object reader-driver read-driver reader-marked =
     let risky = (not reader-object && read-object) || (not reader-driver && read-driver) in
     record { verdict = unless (not risky || reader-marked) row-rule granted; first = true; second = false }
+
+-- a decision, settled: a refusal has no flow
+unfoldable pub settled : Decision → Decision
+settled d = record { verdict = d .verdict; first = isDone (d .verdict) && d .first; second = isDone (d .verdict) && d .second }
 
 -- ---- the test that stands apart from the decisions: the object at or below its driver. Where it fails the verdict is 11, unless the decision gives 10
 unfoldable pub apart : Bool → ℕ → ℕ

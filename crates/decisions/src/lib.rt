@@ -1,7 +1,7 @@
 // What the level tests and the marks of an event settle, from yes-or-no facts alone.
 ghost use mathlib.Core.Path.{_≡_};
 ghost use Rattle.model.specs.Events as model;
-ghost use Rattle.decisions.specs.Decisions.{readDecision, writeDecision, moveDecision, deleteDecision, callDecision, invokeDecision, relayDecision, apart};
+ghost use Rattle.decisions.specs.Decisions.{readDecision, writeDecision, moveDecision, deleteDecision, callDecision, invokeDecision, relayDecision, settled, apart};
 
 pub mod effects;
 pub mod facts;
@@ -123,6 +123,18 @@ pub fn relay(
         verdict: unless(!risky | reader_marked, RULE, GRANTED),
         first: true,
         second: false,
+    }
+}
+
+// A refusal has no flow.
+pub fn settled(judged: Decision) -> Decision
+    ensures { λ r. ⌜ r ≡ settled judged ⌝ }
+{
+    let done = judged.verdict <= SLIPPED;
+    Decision {
+        verdict: judged.verdict,
+        first: done & judged.first,
+        second: done & judged.second,
     }
 }
 

@@ -1,6 +1,6 @@
 -- The tests and rows of the events on objects, the facts that each goes by, and its decision with the verdict of its whole table.
 -- Assumes nothing.
-use mathlib.Core.Bool.{Bool, not, _&&_, _||_}
+use mathlib.Core.Bool.{Bool, false, not, _&&_, _||_}
 use mathlib.Core.List.{List}
 use Prim.Native.Nat.{ℕ}
 use lib.Dec.{eqb}
@@ -15,7 +15,9 @@ use Rattle.model.specs.Events.{unless, feedsUnmarked, read, write, move, delete
 use Rattle.places.specs.Places.{bytesInside}
 use Rattle.decisions.specs.declared.Decision.{Decision}
 use Rattle.decisions.specs.Facts.{writes, bothWrite}
-use Rattle.decisions.specs.Decisions.{judged, readDecision, writeDecision, moveDecision, deleteDecision}
+use Rattle.decisions.specs.Decisions.{settled, judged}
+use Rattle.table.specs.declared.Operation.the-variants.{Read, Write, Move, Delete}
+use Rattle.table.specs.Table.{ruled}
 
 -- ---- tests that the code makes in a function of their own
 
@@ -67,25 +69,25 @@ module _ (o : Order) (m : Memory) where
   R x = readLevelOf m x
 
   unfoldable pub readDecided : ℕ → ℕ → ℕ → Decision
-  readDecided e d x = readDecision (L e ⊑ L d) (R e ⊑ L d) (L e ⊑ L x) (R e ⊑ L x) (marked m d) (marked m e)
+  readDecided e d x = ruled Read (L e ⊑ L d) (R e ⊑ L d) (L e ⊑ L x) (R e ⊑ L x) (marked m d) (marked m e)
 
   abbrev pub readJudged : ℕ → ℕ → ℕ → Decision
-  readJudged e d x = judged (read o m e d x) (readDecided e d x)
+  readJudged e d x = judged (read o m e d x) (settled (readDecided e d x))
 
   unfoldable pub writeDecided : ℕ → ℕ → ℕ → Decision
-  writeDecided e d x = writeDecision (L x ⊑ L e) (marked m d)
+  writeDecided e d x = ruled Write (L x ⊑ L e) (marked m d) false false false false
 
   abbrev pub writeJudged : ℕ → ℕ → ℕ → Decision
-  writeJudged e d x = judged (write o m e d x) (writeDecided e d x)
+  writeJudged e d x = judged (write o m e d x) (settled (writeDecided e d x))
 
   unfoldable pub moveDecided : ℕ → ℕ → ℕ → ℕ → Decision
-  moveDecided e d x t = moveDecision (L x ⊑ L e) (L x ⊑ L t) (marked m d)
+  moveDecided e d x t = ruled Move (L x ⊑ L e) (L x ⊑ L t) (marked m d) false false false
 
   abbrev pub moveJudged : ℕ → ℕ → ℕ → ℕ → ℕ → Decision
-  moveJudged e d x f t = judged (move o m e d x f t) (moveDecided e d x t)
+  moveJudged e d x f t = judged (move o m e d x f t) (settled (moveDecided e d x t))
 
   unfoldable pub deleteDecided : ℕ → ℕ → ℕ → Decision
-  deleteDecided e d x = deleteDecision (L x ⊑ L e) (marked m d)
+  deleteDecided e d x = ruled Delete (L x ⊑ L e) (marked m d) false false false false
 
   abbrev pub deleteJudged : ℕ → ℕ → ℕ → ℕ → Decision
-  deleteJudged e d x k = judged (delete o m e d x k) (deleteDecided e d x)
+  deleteJudged e d x k = judged (delete o m e d x k) (settled (deleteDecided e d x))

@@ -8,6 +8,7 @@ ghost use Rattle.model.specs.Verdicts.{granted};
 ghost use Rattle.model.specs.State.{memory};
 ghost use Rattle.model.specs.Ready.{Ready};
 ghost use Rattle.model.specs.Events.{feedsUnmarked};
+ghost use Rattle.decisions.specs.Decisions.{settled};
 ghost use Rattle.events.specs.Judged.{allWrite, mayMove, moveNamed, isEmpty, driven, lastRows, moveRows, deleteRows, readDecided, writeDecided, moveDecided, deleteDecided, readJudged, writeJudged, moveJudged, deleteJudged};
 use bridging::feeds_unmarked;
 use decisions::Decision;
@@ -32,6 +33,10 @@ use records::LEVEL;
 use records::READ_LEVEL;
 use records::is_object;
 use rows::NUMBERS;
+use table::Engine;
+use table::Operation;
+use table::UNUSED;
+use table::decide;
 
 // The rows of the numbers and of the driver of x, above the rest of the table.
 fn driven(bytes: &[u8], named: bool, d: u16, x: u16, rest: u8) -> u8
@@ -41,10 +46,12 @@ fn driven(bytes: &[u8], named: bool, d: u16, x: u16, rest: u8) -> u8
     unless(named, NUMBER, row)
 }
 
-fn read_decided(bytes: &[u8], order: Order, e: u16, d: u16, x: u16) -> Decision
-    ensures { λ r. ⌜ ((ws : List ℕ) → r ≡ readDecided order (memory (now (bytes .entry)) ws) e d x) ⌝ }
+fn read_decided(bytes: &[u8], order: Order, engine: Engine, e: u16, d: u16, x: u16) -> Decision
+    ensures { λ r. ⌜ ((ws : List ℕ) → r ≡ settled (readDecided order (memory (now (bytes .entry)) ws) e d x)) ⌝ }
 {
-    decisions::read(
+    decide(
+        engine,
+        Operation::Read,
         below(bytes, order, e, LEVEL, d),
         below(bytes, order, e, READ_LEVEL, d),
         below(bytes, order, e, LEVEL, x),
@@ -54,37 +61,59 @@ fn read_decided(bytes: &[u8], order: Order, e: u16, d: u16, x: u16) -> Decision
     )
 }
 
-pub fn read(bytes: &[u8], order: Order, e: u16, d: u16, x: u16) -> Decision
+pub fn read(bytes: &[u8], order: Order, engine: Engine, e: u16, d: u16, x: u16) -> Decision
     ensures { λ r. ⌜ ((ws : List ℕ) → r ≡ readJudged order (memory (now (bytes .entry)) ws) e d x) ⌝ }
 {
-    let mut judged = read_decided(bytes, order, e, d, x);
+    let mut judged = read_decided(bytes, order, engine, e, d, x);
     let rule = apart(below(bytes, order, x, LEVEL, d), judged.verdict);
     judged.verdict = driven(bytes, are_named(bytes, e, d, x), d, x, rule);
     judged
 }
 
-fn write_decided(bytes: &[u8], order: Order, e: u16, d: u16, x: u16) -> Decision
-    ensures { λ r. ⌜ ((ws : List ℕ) → r ≡ writeDecided order (memory (now (bytes .entry)) ws) e d x) ⌝ }
+fn write_decided(bytes: &[u8], order: Order, engine: Engine, e: u16, d: u16, x: u16) -> Decision
+    ensures { λ r. ⌜ ((ws : List ℕ) → r ≡ settled (writeDecided order (memory (now (bytes .entry)) ws) e d x)) ⌝ }
 {
-    decisions::write(below(bytes, order, x, LEVEL, e), marked(bytes, d))
+    decide(
+        engine,
+        Operation::Write,
+        below(bytes, order, x, LEVEL, e),
+        marked(bytes, d),
+        UNUSED,
+        UNUSED,
+        UNUSED,
+        UNUSED,
+    )
 }
 
-pub fn write(bytes: &[u8], order: Order, e: u16, d: u16, x: u16) -> Decision
+pub fn write(bytes: &[u8], order: Order, engine: Engine, e: u16, d: u16, x: u16) -> Decision
     ensures { λ r. ⌜ ((ws : List ℕ) → r ≡ writeJudged order (memory (now (bytes .entry)) ws) e d x) ⌝ }
 {
-    let mut judged = write_decided(bytes, order, e, d, x);
+    let mut judged = write_decided(bytes, order, engine, e, d, x);
     let rule = apart(below(bytes, order, x, LEVEL, d), judged.verdict);
     judged.verdict = driven(bytes, are_named(bytes, e, d, x), d, x, rule);
     judged
 }
 
-fn move_decided(bytes: &[u8], order: Order, e: u16, d: u16, x: u16, t: u16) -> Decision
-    ensures { λ r. ⌜ ((ws : List ℕ) → r ≡ moveDecided order (memory (now (bytes .entry)) ws) e d x t) ⌝ }
+fn move_decided(
+    bytes: &[u8],
+    order: Order,
+    engine: Engine,
+    e: u16,
+    d: u16,
+    x: u16,
+    t: u16,
+) -> Decision
+    ensures { λ r. ⌜ ((ws : List ℕ) → r ≡ settled (moveDecided order (memory (now (bytes .entry)) ws) e d x t)) ⌝ }
 {
-    decisions::move_object(
+    decide(
+        engine,
+        Operation::Move,
         below(bytes, order, x, LEVEL, e),
         below(bytes, order, x, LEVEL, t),
         marked(bytes, d),
+        UNUSED,
+        UNUSED,
+        UNUSED,
     )
 }
 
@@ -125,6 +154,7 @@ pub fn move_object(
     bytes: &[u8],
     words: &[u64],
     order: Order,
+    engine: Engine,
     e: u16,
     d: u16,
     x: u16,
@@ -134,16 +164,25 @@ pub fn move_object(
     requires { ⌜ Ready order (now bytes) (now words) ⌝ }
     ensures { λ r. ⌜ r ≡ moveJudged order (memory (now (bytes .entry)) (now (words .entry))) e d x f t ⌝ }
 {
-    let mut judged = move_decided(bytes, order, e, d, x, t);
+    let mut judged = move_decided(bytes, order, engine, e, d, x, t);
     let rule = apart(below(bytes, order, x, LEVEL, d), judged.verdict);
     judged.verdict = move_rows(bytes, words, e, d, x, f, t, rule);
     judged
 }
 
-fn delete_decided(bytes: &[u8], order: Order, e: u16, d: u16, x: u16) -> Decision
-    ensures { λ r. ⌜ ((ws : List ℕ) → r ≡ deleteDecided order (memory (now (bytes .entry)) ws) e d x) ⌝ }
+fn delete_decided(bytes: &[u8], order: Order, engine: Engine, e: u16, d: u16, x: u16) -> Decision
+    ensures { λ r. ⌜ ((ws : List ℕ) → r ≡ settled (deleteDecided order (memory (now (bytes .entry)) ws) e d x)) ⌝ }
 {
-    decisions::delete(below(bytes, order, x, LEVEL, e), marked(bytes, d))
+    decide(
+        engine,
+        Operation::Delete,
+        below(bytes, order, x, LEVEL, e),
+        marked(bytes, d),
+        UNUSED,
+        UNUSED,
+        UNUSED,
+        UNUSED,
+    )
 }
 
 fn is_empty(bytes: &[u8], x: u16) -> bool
@@ -182,11 +221,20 @@ fn delete_rows(bytes: &[u8], words: &[u64], e: u16, d: u16, x: u16, k: u16, rest
     last_rows(bytes, words, x, driven(bytes, named, d, x, row))
 }
 
-pub fn delete(bytes: &[u8], words: &[u64], order: Order, e: u16, d: u16, x: u16, k: u16) -> Decision
+pub fn delete(
+    bytes: &[u8],
+    words: &[u64],
+    order: Order,
+    engine: Engine,
+    e: u16,
+    d: u16,
+    x: u16,
+    k: u16,
+) -> Decision
     requires { ⌜ Ready order (now bytes) (now words) ⌝ }
     ensures { λ r. ⌜ r ≡ deleteJudged order (memory (now (bytes .entry)) (now (words .entry))) e d x k ⌝ }
 {
-    let mut judged = delete_decided(bytes, order, e, d, x);
+    let mut judged = delete_decided(bytes, order, engine, e, d, x);
     let rule = apart(below(bytes, order, x, LEVEL, d), judged.verdict);
     judged.verdict = delete_rows(bytes, words, e, d, x, k, rule);
     judged

@@ -1,4 +1,4 @@
-// The events on objects: read, write, move and delete, each equal to its table in the model.
+// The events on objects: read, write, move and delete, each equal to its table in the model, whichever engine decides.
 ghost use mathlib.Core.Path.{_≡_};
 ghost use Rattle.model.specs.State.{memory};
 ghost use Rattle.model.specs.Ready.{Ready};
@@ -12,12 +12,14 @@ use decisions::facts::are_named;
 use levels::Order;
 use model::NUMBER;
 use model::SLIPPED;
+use table::Engine;
 
 // A read and a write refuse wrong numbers first: what they look up after that needs no test of its range.
 pub fn read(
     bytes: &[u8],
     words: &mut [u64],
     order: Order,
+    engine: Engine,
     task: u16,
     driver: u16,
     object: u16,
@@ -28,7 +30,7 @@ pub fn read(
     if !are_named(bytes, task, driver, object) {
         return NUMBER;
     }
-    let judged = judge::read(bytes, order, task, driver, object);
+    let judged = judge::read(bytes, order, engine, task, driver, object);
     if judged.verdict <= SLIPPED {
         effects::read(words, judged, task, driver, object);
     }
@@ -39,6 +41,7 @@ pub fn write(
     bytes: &[u8],
     words: &mut [u64],
     order: Order,
+    engine: Engine,
     task: u16,
     driver: u16,
     object: u16,
@@ -49,7 +52,7 @@ pub fn write(
     if !are_named(bytes, task, driver, object) {
         return NUMBER;
     }
-    let judged = judge::write(bytes, order, task, driver, object);
+    let judged = judge::write(bytes, order, engine, task, driver, object);
     if judged.verdict <= SLIPPED {
         effects::write(words, judged, task, driver, object);
     }
@@ -60,6 +63,7 @@ pub fn move_object(
     bytes: &mut [u8],
     words: &mut [u64],
     order: Order,
+    engine: Engine,
     task: u16,
     driver: u16,
     object: u16,
@@ -69,7 +73,7 @@ pub fn move_object(
     requires { ⌜ Ready order (now bytes) (now words) ⌝ }
     ensures { λ r. ⌜ left r 0 (now (bytes .exit)) (now (words .exit)) ≡ outcome (memory (now (bytes .entry)) (now (words .entry))) (model.move order (memory (now (bytes .entry)) (now (words .entry))) task driver object from to) ⌝ }
 {
-    let judged = judge::move_object(bytes, words, order, task, driver, object, from, to);
+    let judged = judge::move_object(bytes, words, order, engine, task, driver, object, from, to);
     if judged.verdict <= SLIPPED {
         effects::move_object(bytes, words, judged, task, driver, object, to);
     }
@@ -80,6 +84,7 @@ pub fn delete(
     bytes: &mut [u8],
     words: &mut [u64],
     order: Order,
+    engine: Engine,
     task: u16,
     driver: u16,
     object: u16,
@@ -88,7 +93,7 @@ pub fn delete(
     requires { ⌜ Ready order (now bytes) (now words) ⌝ }
     ensures { λ r. ⌜ left r 0 (now (bytes .exit)) (now (words .exit)) ≡ outcome (memory (now (bytes .entry)) (now (words .entry))) (model.delete order (memory (now (bytes .entry)) (now (words .entry))) task driver object container) ⌝ }
 {
-    let judged = judge::delete(bytes, words, order, task, driver, object, container);
+    let judged = judge::delete(bytes, words, order, engine, task, driver, object, container);
     if judged.verdict <= SLIPPED {
         effects::delete(bytes, words, judged, task, driver, object);
     }

@@ -7,7 +7,10 @@ use Rattle.levels.specs.Order.{atOrBelow}
 use Rattle.model.specs.State.{Memory, levelOf, readLevelOf, driverOf, marked}
 use Rattle.model.specs.Events.{verdictOf, callTask, invoke, pass, post, find}
 use Rattle.decisions.specs.declared.Decision.{Decision}
-use Rattle.decisions.specs.Decisions.{judged, callDecision, invokeDecision, relayDecision}
+use Rattle.decisions.specs.Decisions.{settled, judged}
+use Rattle.table.specs.declared.Operation.{Operation}
+use Rattle.table.specs.declared.Operation.the-variants.{Call, Invoke, Pass, Post}
+use Rattle.table.specs.Table.{ruled}
 
 module _ (o : Order) (m : Memory) where
   infix 40 _⊑_
@@ -21,26 +24,26 @@ module _ (o : Order) (m : Memory) where
   R x = readLevelOf m x
 
   unfoldable pub callDecided : ℕ → ℕ → Decision
-  callDecided a b = callDecision (L a ⊑ L b) (R a ⊑ L b) (marked m a) (marked m b)
+  callDecided a b = ruled Call (L a ⊑ L b) (R a ⊑ L b) (marked m a) (marked m b) false false
 
   abbrev pub callJudged : ℕ → ℕ → Decision
-  callJudged a b = judged (callTask o m a b) (callDecided a b)
+  callJudged a b = judged (callTask o m a b) (settled (callDecided a b))
 
   unfoldable pub invokeDecided : ℕ → ℕ → Decision
-  invokeDecided a b = invokeDecision (L b ⊑ L a) (marked m a)
+  invokeDecided a b = ruled Invoke (L b ⊑ L a) (marked m a) false false false false
 
   abbrev pub invokeJudged : ℕ → ℕ → Decision
-  invokeJudged a b = judged (invoke o m a b) (invokeDecided a b)
+  invokeJudged a b = judged (invoke o m a b) (settled (invokeDecided a b))
 
-  -- what the task z read of the object x goes on
-  unfoldable pub relayDecided : ℕ → ℕ → Decision
-  relayDecided z x = relayDecision (L z ⊑ L x) (R z ⊑ L x) (L z ⊑ L (driverOf m x)) (R z ⊑ L (driverOf m x)) (marked m z)
+  -- what the task z read of the object x goes on, by a pass or a post
+  unfoldable pub relayDecided : Operation → ℕ → ℕ → Decision
+  relayDecided op z x = ruled op (L z ⊑ L x) (R z ⊑ L x) (L z ⊑ L (driverOf m x)) (R z ⊑ L (driverOf m x)) (marked m z) false
 
   abbrev pub passJudged : ℕ → ℕ → ℕ → Decision
-  passJudged z x y = judged (pass o m z x y) (relayDecided z x)
+  passJudged z x y = judged (pass o m z x y) (settled (relayDecided Pass z x))
 
   abbrev pub postJudged : ℕ → ℕ → ℕ → Decision
-  postJudged x z y = judged (post o m x z y) (relayDecided y z)
+  postJudged x z y = judged (post o m x z y) (settled (relayDecided Post y z))
 
   abbrev pub findJudged : ℕ → ℕ → ℕ → Decision
   findJudged x z y = record { verdict = verdictOf (find o m x z y); first = true; second = false }

@@ -4,6 +4,7 @@ ghost use mathlib.Core.List.{List};
 ghost use Prim.Native.Nat.{ℕ};
 ghost use Rattle.records.specs.Records.{BytesLent};
 ghost use Rattle.model.specs.State.{memory};
+ghost use Rattle.decisions.specs.Decisions.{settled};
 ghost use Rattle.flows.specs.Judged.{relayDecided, callJudged, invokeJudged, passJudged, postJudged, findJudged};
 use decisions::Decision;
 use decisions::facts::below;
@@ -22,52 +23,84 @@ use records::READ_LEVEL;
 use records::is_object;
 use records::is_task;
 use rows::READS;
+use table::Engine;
+use table::Operation;
+use table::UNUSED;
+use table::decide;
 
-pub fn call_task(bytes: &[u8], order: Order, caller: u16, callee: u16) -> Decision
+pub fn call_task(bytes: &[u8], order: Order, engine: Engine, caller: u16, callee: u16) -> Decision
     ensures { λ r. ⌜ ((ws : List ℕ) → r ≡ callJudged order (memory (now (bytes .entry)) ws) caller callee) ⌝ }
 {
-    let mut judged = decisions::call_task(
+    let mut judged = decide(
+        engine,
+        Operation::Call,
         below(bytes, order, caller, LEVEL, callee),
         below(bytes, order, caller, READ_LEVEL, callee),
         marked(bytes, caller),
         marked(bytes, callee),
+        UNUSED,
+        UNUSED,
     );
     let named = is_task(bytes, caller) & is_task(bytes, callee);
     judged.verdict = unless(named, NUMBER, judged.verdict);
     judged
 }
 
-pub fn invoke(bytes: &[u8], order: Order, invoker: u16, invokee: u16) -> Decision
+pub fn invoke(bytes: &[u8], order: Order, engine: Engine, invoker: u16, invokee: u16) -> Decision
     ensures { λ r. ⌜ ((ws : List ℕ) → r ≡ invokeJudged order (memory (now (bytes .entry)) ws) invoker invokee) ⌝ }
 {
-    let mut judged = decisions::invoke(
+    let mut judged = decide(
+        engine,
+        Operation::Invoke,
         below(bytes, order, invokee, LEVEL, invoker),
         marked(bytes, invoker),
+        UNUSED,
+        UNUSED,
+        UNUSED,
+        UNUSED,
     );
     let named = is_task(bytes, invoker) & is_task(bytes, invokee);
     judged.verdict = unless(named, NUMBER, judged.verdict);
     judged
 }
 
-// Whether what the task z read of the object x goes on.
-fn relay(bytes: &[u8], order: Order, z: u16, x: u16) -> Decision
-    ensures { λ r. ⌜ ((ws : List ℕ) → r ≡ relayDecided order (memory (now (bytes .entry)) ws) z x) ⌝ }
+// Whether what the task z read of the object x goes on, by a pass or a post.
+fn relay(
+    bytes: &[u8],
+    order: Order,
+    engine: Engine,
+    operation: Operation,
+    z: u16,
+    x: u16,
+) -> Decision
+    ensures { λ r. ⌜ ((ws : List ℕ) → r ≡ settled (relayDecided order (memory (now (bytes .entry)) ws) operation z x)) ⌝ }
 {
     let driver = records::field(bytes, x, DRIVER) as u16;
-    decisions::relay(
+    decide(
+        engine,
+        operation,
         below(bytes, order, z, LEVEL, x),
         below(bytes, order, z, READ_LEVEL, x),
         below(bytes, order, z, LEVEL, driver),
         below(bytes, order, z, READ_LEVEL, driver),
         marked(bytes, z),
+        UNUSED,
     )
 }
 
-pub fn pass(bytes: &[u8], words: &[u64], order: Order, z: u16, x: u16, y: u16) -> Decision
+pub fn pass(
+    bytes: &[u8],
+    words: &[u64],
+    order: Order,
+    engine: Engine,
+    z: u16,
+    x: u16,
+    y: u16,
+) -> Decision
     requires { ⌜ BytesLent (now bytes) ⌝ }
     ensures { λ r. ⌜ r ≡ passJudged order (memory (now (bytes .entry)) (now (words .entry))) z x y ⌝ }
 {
-    let mut judged = relay(bytes, order, z, x);
+    let mut judged = relay(bytes, order, engine, Operation::Pass, z, x);
     let named = is_task(bytes, z) & is_object(bytes, x) & in_use(bytes, y);
     let held = rows::has(words, z, y) & has_access(words, READS, z, x);
     let row = unless(y != x, PLACE, unless(held, HELD, judged.verdict));
@@ -75,11 +108,19 @@ pub fn pass(bytes: &[u8], words: &[u64], order: Order, z: u16, x: u16, y: u16) -
     judged
 }
 
-pub fn post(bytes: &[u8], words: &[u64], order: Order, x: u16, z: u16, y: u16) -> Decision
+pub fn post(
+    bytes: &[u8],
+    words: &[u64],
+    order: Order,
+    engine: Engine,
+    x: u16,
+    z: u16,
+    y: u16,
+) -> Decision
     requires { ⌜ BytesLent (now bytes) ⌝ }
     ensures { λ r. ⌜ r ≡ postJudged order (memory (now (bytes .entry)) (now (words .entry))) x z y ⌝ }
 {
-    let mut judged = relay(bytes, order, y, z);
+    let mut judged = relay(bytes, order, engine, Operation::Post, y, z);
     let named = is_task(bytes, x) & is_object(bytes, z) & is_task(bytes, y);
     let held = rows::has(words, x, z) & has_access(words, READS, y, z);
     let row = unless(x != y, PLACE, unless(held, HELD, judged.verdict));

@@ -1,4 +1,4 @@
-// The events of flows alone: call, invoke, pass, post and find, each equal to its table in the model.
+// The events of flows alone: call, invoke, pass, post and find, each equal to its table in the model, whichever engine decides.
 ghost use mathlib.Core.Path.{_≡_};
 ghost use Rattle.model.specs.State.{memory};
 ghost use Rattle.model.specs.Ready.{Ready};
@@ -10,45 +10,76 @@ mod judge;
 use decisions::effects;
 use levels::Order;
 use model::SLIPPED;
+use table::Engine;
 
-pub fn call_task(bytes: &[u8], words: &mut [u64], order: Order, caller: u16, callee: u16) -> u8
+pub fn call_task(
+    bytes: &[u8],
+    words: &mut [u64],
+    order: Order,
+    engine: Engine,
+    caller: u16,
+    callee: u16,
+) -> u8
     requires { ⌜ Ready order (now bytes) (now words) ⌝ }
     ensures { λ r. ⌜ left r 0 (now (bytes .entry)) (now (words .exit)) ≡ outcome (memory (now (bytes .entry)) (now (words .entry))) (model.callTask order (memory (now (bytes .entry)) (now (words .entry))) caller callee) ⌝ }
 {
-    let judged = judge::call_task(bytes, order, caller, callee);
+    let judged = judge::call_task(bytes, order, engine, caller, callee);
     if judged.verdict <= SLIPPED {
         effects::record_both(words, judged, callee, caller, caller, callee);
     }
     judged.verdict
 }
 
-pub fn invoke(bytes: &[u8], words: &mut [u64], order: Order, invoker: u16, invokee: u16) -> u8
+pub fn invoke(
+    bytes: &[u8],
+    words: &mut [u64],
+    order: Order,
+    engine: Engine,
+    invoker: u16,
+    invokee: u16,
+) -> u8
     requires { ⌜ Ready order (now bytes) (now words) ⌝ }
     ensures { λ r. ⌜ left r 0 (now (bytes .entry)) (now (words .exit)) ≡ outcome (memory (now (bytes .entry)) (now (words .entry))) (model.invoke order (memory (now (bytes .entry)) (now (words .entry))) invoker invokee) ⌝ }
 {
-    let judged = judge::invoke(bytes, order, invoker, invokee);
+    let judged = judge::invoke(bytes, order, engine, invoker, invokee);
     if judged.verdict <= SLIPPED {
         effects::record_both(words, judged, invoker, invokee, invokee, invoker);
     }
     judged.verdict
 }
 
-pub fn pass(bytes: &[u8], words: &mut [u64], order: Order, z: u16, x: u16, y: u16) -> u8
+pub fn pass(
+    bytes: &[u8],
+    words: &mut [u64],
+    order: Order,
+    engine: Engine,
+    z: u16,
+    x: u16,
+    y: u16,
+) -> u8
     requires { ⌜ Ready order (now bytes) (now words) ⌝ }
     ensures { λ r. ⌜ left r 0 (now (bytes .entry)) (now (words .exit)) ≡ outcome (memory (now (bytes .entry)) (now (words .entry))) (model.pass order (memory (now (bytes .entry)) (now (words .entry))) z x y) ⌝ }
 {
-    let judged = judge::pass(bytes, words, order, z, x, y);
+    let judged = judge::pass(bytes, words, order, engine, z, x, y);
     if judged.verdict <= SLIPPED {
         effects::record_first(words, judged, x, y);
     }
     judged.verdict
 }
 
-pub fn post(bytes: &[u8], words: &mut [u64], order: Order, x: u16, z: u16, y: u16) -> u8
+pub fn post(
+    bytes: &[u8],
+    words: &mut [u64],
+    order: Order,
+    engine: Engine,
+    x: u16,
+    z: u16,
+    y: u16,
+) -> u8
     requires { ⌜ Ready order (now bytes) (now words) ⌝ }
     ensures { λ r. ⌜ left r 0 (now (bytes .entry)) (now (words .exit)) ≡ outcome (memory (now (bytes .entry)) (now (words .entry))) (model.post order (memory (now (bytes .entry)) (now (words .entry))) x z y) ⌝ }
 {
-    let judged = judge::post(bytes, words, order, x, z, y);
+    let judged = judge::post(bytes, words, order, engine, x, z, y);
     if judged.verdict <= SLIPPED {
         effects::record_first(words, judged, x, y);
     }

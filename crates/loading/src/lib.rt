@@ -19,12 +19,14 @@ use layout::fields::task_at;
 use levels::Order;
 use model::GRANTED;
 use model::SLIPPED;
+use table::Engine;
 
 // An object in a container: the core and the object's driver each write to the container, through its driver, first.
 fn create_in(
     bytes: &mut [u8],
     words: &mut [u64],
     order: Order,
+    engine: Engine,
     container: u16,
     holder: u16,
     number: u16,
@@ -34,11 +36,11 @@ fn create_in(
     requires { ⌜ Ready order (now bytes) (now words) ⌝ }
     ensures { λ r. ⌜ left r 0 (now (bytes .exit)) (now (words .exit)) ≡ inTurn order (objectCalls (record { number = container; driver = holder } ∷ []) (record { number = number; driver = driver; level = level })) (memory (now (bytes .entry)) (now (words .entry))) ⌝ }
 {
-    let core = events::write(bytes, words, order, 0, holder, container);
+    let core = events::write(bytes, words, order, engine, 0, holder, container);
     if core > SLIPPED {
         return core;
     }
-    let other = events::write(bytes, words, order, driver, holder, container);
+    let other = events::write(bytes, words, order, engine, driver, holder, container);
     if other > SLIPPED {
         return other;
     }
@@ -50,6 +52,7 @@ fn create(
     bytes: &mut [u8],
     words: &mut [u64],
     order: Order,
+    engine: Engine,
     held: &[u16],
     depth: usize,
     number: u16,
@@ -68,6 +71,7 @@ fn create(
         bytes,
         words,
         order,
+        engine,
         container,
         holder,
         number,
@@ -110,6 +114,7 @@ fn object(
     bytes: &mut [u8],
     words: &mut [u64],
     order: Order,
+    engine: Engine,
     text: &[u8],
     at: usize,
     held: &mut [u16],
@@ -131,7 +136,17 @@ fn object(
     else {
         return Turn::Ends { verdict: GRANTED };
     };
-    let verdict = create(bytes, words, order, held, depth, number, driver, level);
+    let verdict = create(
+        bytes,
+        words,
+        order,
+        engine,
+        held,
+        depth,
+        number,
+        driver,
+        level,
+    );
     if verdict > SLIPPED {
         return Turn::Ends { verdict };
     }
@@ -141,7 +156,7 @@ fn object(
 }
 
 // The whole text, form after form.
-pub fn lay_out(bytes: &mut [u8], words: &mut [u64], order: Order, text: &[u8]) -> u8
+pub fn lay_out(bytes: &mut [u8], words: &mut [u64], order: Order, engine: Engine, text: &[u8]) -> u8
     requires { ⌜ Ready order (now bytes) (now words) ⌝ }
     ensures { λ r. ⌜ left r 0 (now (bytes .exit)) (now (words .exit)) ≡ inTurn order (callsIn (now (text .entry))) (memory (now (bytes .entry)) (now (words .entry))) ⌝ }
 {
@@ -163,7 +178,7 @@ pub fn lay_out(bytes: &mut [u8], words: &mut [u64], order: Order, text: &[u8]) -
                 Turn::GoesOn { end } => at = end,
             }
         } else {
-            match object(bytes, words, order, text, at, &mut held, depth) {
+            match object(bytes, words, order, engine, text, at, &mut held, depth) {
                 Turn::Ends { verdict } => return verdict,
                 Turn::GoesOn { end } => {
                     depth += 1;

@@ -1,10 +1,10 @@
 -- Whether a call that has a told word is granted is settled without marks: one fact for each of the eight.
 -- Assumes nothing.
 use mathlib.Core.Path.{_≡_, refl, sym, ap, _∙_}
-use mathlib.Core.Bool.{Bool, true, false, cond, _&&_, _||_}
+use mathlib.Core.Bool.{Bool, true, false, not, cond, _&&_, _||_, false≢true}
 use mathlib.Core.Logic.{inl, inr}
 use mathlib.Core.List.{List, [], _∷_}
-use Prim.Native.Nat.{ℕ, zero, suc, _<_}
+use Prim.Native.Nat.{ℕ, zero, suc}
 use native.Mathlib.Omega.{arith}
 use lib.Dec.{eqb, leb, ltb}
 use lib.ListN.{length}
@@ -16,7 +16,7 @@ use Rattle.levels.specs.Order.{orderPasses}
 use Rattle.records.specs.Records.{recordSize, field, setField, isTask, isObject, liesWithin, soundOf}
 use Rattle.records.specs.RecordLaws.{field-past, field-else, long}
 use Rattle.model.specs.Verdicts.{granted, slipped, row-state, row-order, row-number}
-use Rattle.model.specs.State.{MemoryOf, lengthsFit, inUse, task, object, levelOf, readLevelOf, driverOf, containerOf, liesIn, marked, hasWrite}
+use Rattle.model.specs.State.{MemoryOf, lengthsFit, inUse, task, object, containerOf, liesIn, marked, hasWrite}
 use Rattle.model.specs.Inside.{mostSteps, walk, inside}
 use Rattle.model.specs.Effects.{withBytes}
 use Rattle.model.specs.Events.{Test, need, Event, OutcomeOf, unless, firstFailing, verdictOf, outcome, read, write, execute, create, createRoot, move, callTask, invoke}
@@ -87,55 +87,38 @@ pub one-mark : {size : Size} (m : MemoryOf size) (x v : ℕ) → SameButMarks m 
 one-mark m x v = record { same-bytes = λ y f l k h. sym (field-else (m .bytes) x 5 v y f (omega arith) k (inr h)); same-words = refl }
 
 module _ {size : Size} (o : Order) (m n : MemoryOf size) (k : SameButMarks m n) (sm : soundOf size o (m .bytes) ≡ true) (sn : soundOf size o (n .bytes) ≡ true) where
-  -- what is read of both is the same
-
-  same : (x f : ℕ) → f < recordSize → (f ≡ 5 → ⊥) → field (m .bytes) x f ≡ field (n .bytes) x f
-  same x f l h =
+  -- what is read of both is the same: every byte of a record but that of the marks
+  same : (x f : ℕ) → (ltb f recordSize && not (eqb f 5)) ≡ true → field (m .bytes) x f ≡ field (n .bytes) x f
+  same x f c =
+      let l = ltb-true f recordSize (and-l (ltb f recordSize) (not (eqb f 5)) c) in
+      let apart : f ≡ 5 → ⊥ = λ e. false≢true (rw e at (and-r (ltb f recordSize) (not (eqb f 5)) c)) in
       elim (either (ltb x (numbersOf size))) [
-        | inl t ↦ k .same-bytes x f (ltb-true x (numbersOf size) t) l h
+        | inl t ↦ k .same-bytes x f (ltb-true x (numbersOf size) t) l apart
         | inr t ↦
             let past = ltb-false x (numbersOf size) t in
             field-past size (m .bytes) x f (long size o (m .bytes) sm) past ∙ sym (field-past size (n .bytes) x f (long size o (n .bytes) sn) past)
       ]
 
-  same-kind : (x : ℕ) → field (m .bytes) x 0 ≡ field (n .bytes) x 0
-  same-kind x = same x 0 (omega arith) (λ e. omega (arith, e))
-
-  same-level : (x : ℕ) → levelOf m x ≡ levelOf n x
-  same-level x = same x 1 (omega arith) (λ e. omega (arith, e))
-
-  same-reads : (x : ℕ) → readLevelOf m x ≡ readLevelOf n x
-  same-reads x = same x 2 (omega arith) (λ e. omega (arith, e))
-
-  same-driver : (x : ℕ) → driverOf m x ≡ driverOf n x
-  same-driver x = same x 3 (omega arith) (λ e. omega (arith, e))
-
-  same-container : (x : ℕ) → containerOf m x ≡ containerOf n x
-  same-container x = same x 4 (omega arith) (λ e. omega (arith, e))
-
-  same-spare : (x : ℕ) → field (m .bytes) x 6 ≡ field (n .bytes) x 6
-  same-spare x = same x 6 (omega arith) (λ e. omega (arith, e))
-
   same-used : (x : ℕ) → inUse m x ≡ inUse n x
   unfolding inUse
-  same-used x = rw (same-kind x)
+  same-used x = rw (same x 0 refl)
 
   same-task : (x : ℕ) → task m x ≡ task n x
   unfolding task isTask
-  same-task x = rw (same-kind x)
+  same-task x = rw (same x 0 refl)
 
   same-object : (x : ℕ) → object m x ≡ object n x
   unfolding object isObject
-  same-object x = rw (same-kind x)
+  same-object x = rw (same x 0 refl)
 
   same-place : (x y : ℕ) → liesIn m x y ≡ liesIn n x y
   unfolding liesWithin
-  same-place x y = rw (same-container x, same-spare x)
+  same-place x y = rw (same x 4 refl, same x 6 refl)
 
   same-walk : (i x y : ℕ) → walk i m x y ≡ walk i n x y
   unfolding walk
   same-walk zero x y = refl
-  same-walk (suc i) x y = rw (same-place x y, same-container x, same-spare x, same-walk i (containerOf n x) y)
+  same-walk (suc i) x y = rw (same-place x y, same x 4 refl, same x 6 refl, same-walk i (containerOf n x) y)
 
   same-inside : (x y : ℕ) → inside m x y ≡ inside n x y
   unfolding inside
@@ -145,7 +128,7 @@ module _ {size : Size} (o : Order) (m n : MemoryOf size) (k : SameButMarks m n) 
   unfolding hasWrite
   same-access x y = rw (k .same-words)
 
-  ruleset sames = (same-task, same-object, same-used, same-level, same-reads, same-driver, same-place, same-inside, same-access)
+  ruleset sames = (same, same-task, same-object, same-used, same-place, same-inside, same-access)
 
   -- ---- the eight calls
 

@@ -20,12 +20,12 @@ use Rattle.loading.proofs.lay_out.Statement.{statement}
 use Rattle.loading.proofs.lay_out.Tie as tie
 
 abbrev Inv-loop : tie.InvT-loop
-Inv-loop bytes₀ words₀ order text held₀ depth₀ at₀ bytes words held depth at =
+Inv-loop bytes₀ words₀ order engine text held₀ depth₀ at₀ bytes words held depth at =
     (depth ≤ at) × (at ≤ length text) × Ready order bytes words × (length held ≡ 2 * mostDeep)
     × (inTurn order (callsFrom (holders held depth) (drop at text)) (memory bytes words) ≡ inTurn order (callsIn text) (memory bytes₀ words₀))
 
 abbrev μ-loop : tie.MeasureT-loop
-μ-loop bytes₀ words₀ order text held₀ depth₀ at₀ bytes words held depth at = length text - at
+μ-loop bytes₀ words₀ order engine text held₀ depth₀ at₀ bytes words held depth at = length text - at
 
 loop-holds : tie.Need-loop-holds Inv-loop μ-loop
 unfolding holders
@@ -133,7 +133,7 @@ object-ended : (k : tie.After-object Inv-loop μ-loop) (v : ℕ) → k .object .
 object-ended k v e = ends-with (from-object k .args .order) _ (k .object .result) v _ e (k .object .ensures .1) ∙ at-object k .loop .inv .4
 
 object-went : (k : tie.After-object Inv-loop μ-loop) (e : ℕ) → k .object .result ≡ GoesOn e
-    → inTurn (from-object k .args .order) (callsFrom (holders (k .object .last .1 .1 .1 .1 .1 .0) (at-object k .loop .depth + 1)) (drop e (from-object k .args .text .now))) (memory (k .object .last .0) (k .object .last .1 .0))
+    → inTurn (from-object k .args .order) (callsFrom (holders (k .object .last .1 .1 .1 .1 .1 .1 .0) (at-object k .loop .depth + 1)) (drop e (from-object k .args .text .now))) (memory (k .object .last .0) (k .object .last .1 .0))
     ≡ inTurn (from-object k .args .order) (callsIn (from-object k .args .text .now)) (memory (from-object k .args .bytes .now) (from-object k .args .words .now))
 object-went k e p = goes-with (from-object k .args .order) _ (k .object .result) e _ p (k .object .ensures .1) ∙ at-object k .loop .inv .4
 
@@ -157,7 +157,7 @@ loop-again-4 c =
     let k : tie.After-object Inv-loop μ-loop = search in
     let g = object-further k _ (c .before .end2 .given .1) in
     let i = at-object k .loop .inv in
-    (omega (arith, i .0), g .1, g .2, k .object .kept .1 .1 .1 .1 .1 .0 ∙ i .3, object-went k _ (c .before .end2 .given .1))
+    (omega (arith, i .0), g .1, g .2, k .object .kept .1 .1 .1 .1 .1 .1 .0 ∙ i .3, object-went k _ (c .before .end2 .given .1))
 
 returns-4 : tie.Need-returns-4 Inv-loop μ-loop
 returns-4 c =

@@ -1,6 +1,9 @@
-use mathlib.Core.Path.{refl}
+use mathlib.Core.Path.{refl, ap}
 use borrow.Author.Needs.{needs}
+use Rattle.model.specs.Verdicts.{row-number}
+use Rattle.model.specs.Events.{unless}
 use Rattle.model.specs.State.{task, marked}
+use Rattle.decisions.specs.DecisionLaws.{judged-is}
 use Rattle.flows.specs.Judged.{invokeDecided}
 use Rattle.flows.specs.FlowLaws.{invoke-verdict}
 use Rattle.flows.proofs.judge.invoke.Statement.{statement}
@@ -9,15 +12,9 @@ use Rattle.flows.proofs.judge.invoke.Tie as tie
 returns : tie.Need-returns
 unfolding task marked invokeDecided
 returns c =
-    λ ws. rw invoke-verdict
-    (simp (
-      c .unless .ensures,
-      c .before .is-task2 .ensures,
-      c .before .before .is-task .ensures,
-      c .before .before .before .invoke .ensures,
-      c .before .before .before .before .marked .ensures,
-      c .before .before .before .before .before .below .ensures,
-    ) refl)
+    let d = c .before .before .before in
+    λ ws. judged-is _ _ (simp (d .decide .ensures, d .before .marked .ensures, d .before .before .below .ensures) refl)
+    (λ v. rw invoke-verdict (simp (c .unless .ensures, c .before .is-task2 .ensures, c .before .before .is-task .ensures) (ap (unless _ row-number) v)))
 
 pub invoke-spec : {M : Type 1} → statement M
 invoke-spec =

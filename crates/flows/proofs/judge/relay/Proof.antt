@@ -1,3 +1,4 @@
+use mathlib.Core.Path.{refl}
 use borrow.Author.Needs.{needs}
 use Rattle.model.specs.State.{marked}
 use Rattle.flows.specs.Judged.{relayDecided}
@@ -6,7 +7,16 @@ use Rattle.flows.proofs.judge.relay.Tie as tie
 
 returns : tie.Need-returns
 unfolding marked relayDecided
-returns c = λ ws. cc
+returns c =
+    λ ws. simp (
+      c .decide .ensures,
+      c .before .marked .ensures,
+      c .before .before .below4 .ensures,
+      c .before .before .before .below3 .ensures,
+      c .before .before .before .before .below2 .ensures,
+      c .before .before .before .before .before .below .ensures,
+      c .before .before .before .before .before .before .field .ensures,
+    ) refl
 
 pub relay-spec : {M : Type 1} → statement M
 relay-spec =
