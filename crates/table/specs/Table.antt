@@ -1,10 +1,11 @@
 -- The decision table of document 02: eight operations times 64 settings of six yes-or-no facts, and what each entry has to be.
 -- Assumes nothing.
-use mathlib.Core.Bool.{Bool}
-use mathlib.Core.List.{List, [], _∷_}
-use Prim.Native.Nat.{ℕ, zero, suc, _+_, _*_, _/_, _%_}
+use mathlib.Core.Bool.{Bool, _&&_}
+use mathlib.Core.List.{List, []}
+use Prim.Native.Nat.{ℕ, _+_, _*_, _/_, _%_, _^_}
 use lib.Dec.{eqb}
-use Rattle.bits.specs.All.{one}
+use lib.ListN.{getD}
+use Rattle.bits.specs.All.{one, allB}
 use Rattle.bits.specs.Bit.{bit}
 use Rattle.decisions.specs.declared.Decision.{Decision}
 use Rattle.decisions.specs.Decisions.{settled, readDecision, writeDecision, moveDecision, deleteDecision, callDecision, invokeDecision, relayDecision}
@@ -50,15 +51,6 @@ decisionOf n = record { verdict = n % 16; first = eqb (n / 16 % 2) 1; second = e
 abbrev pub entryAt : Operation → ℕ → ℕ
 entryAt op s = entryOf (decided op (bit s 0) (bit s 1) (bit s 2) (bit s 3) (bit s 4) (bit s 5))
 
--- f 0, f 1 and on, n of them
-unfoldable pub listed : {A : Type 0} → ℕ → (ℕ → A) → List A
-listed zero f = []
-listed (suc n) f = f 0 ∷ listed n (λ j. f (suc j))
-
--- an operation's part of the table: eight rows of eight, the setting s in row s / 8, column s % 8
-unfoldable pub rowsOf : Operation → List (List ℕ)
-rowsOf op = listed 8 (λ i. listed 8 (λ j. entryAt op (8 * i + j)))
-
 -- how many facts an operation has
 unfoldable pub factsOf : Operation → ℕ
 factsOf Read = 6
@@ -69,3 +61,11 @@ factsOf Call = 4
 factsOf Invoke = 2
 factsOf Pass = 5
 factsOf Post = 5
+
+-- what stands for a setting in an operation's part of the table, eight rows of eight: row s / 8, column s % 8
+abbrev pub entryIn : List (List ℕ) → ℕ → ℕ
+entryIn rows s = getD (getD rows (s / 8) []) (s % 8) 0
+
+-- the one fact about the table: each entry is the number of the decision on its facts, and facts past the operation's own make no difference
+unfoldable pub filled : Operation → List (List ℕ) → Bool
+filled op rows = allB settings (λ s. eqb (entryIn rows s) (entryAt op s) && eqb (entryIn rows s) (entryIn rows (s % 2 ^ factsOf op)))

@@ -1,23 +1,20 @@
--- Laws of the table: an entry is found by its setting and says its decision, and facts past an operation's own make no difference.
+-- Laws of the table: an entry is found by its setting and says its decision.
 -- Assumes nothing.
-use mathlib.Core.Path.{_≡_, refl, sym, ap, _∙_}
-use mathlib.Core.Bool.{Bool, true, false}
-use mathlib.Core.List.{List, [], _∷_}
-use Prim.Native.Nat.{ℕ, zero, suc, _+_, _*_, _/_, _%_, _^_, _<_}
-use native.Mathlib.Nat.{le-of-suc-le-suc, not-suc-le-zero}
+use mathlib.Core.Path.{_≡_, refl, ap, _∙_}
+use mathlib.Core.Bool.{Bool, true, false, _&&_}
+use mathlib.Core.List.{List}
+use Prim.Native.Nat.{ℕ, suc, _+_, _*_, _/_, _%_, _^_, _<_}
 use native.Mathlib.Omega.{arith}
 use lib.Dec.{eqb}
-use lib.ListN.{getD}
 use borrow.Author.Tests.{eqb-true}
-use Rattle.bits.specs.All.{one, allB}
-use Rattle.bits.specs.AllLaws.{all-at}
+use Rattle.bits.specs.All.{one}
+use Rattle.bits.specs.AllLaws.{and-l, and-r, all-at}
 use Rattle.bits.specs.Bit.{bit}
 use Rattle.bits.specs.BitLaws.{bit-low, bit-half}
-use Rattle.model.specs.Verdicts.{granted, slipped, row-path, row-rule, isDone}
 use Rattle.model.specs.Events.{unless}
 use Rattle.decisions.specs.declared.Decision.{Decision}
 use Rattle.decisions.specs.Decisions.{settled, readDecision, writeDecision, moveDecision, deleteDecision, callDecision, invokeDecision, relayDecision}
-use Rattle.table.specs.Table.{settings, setting, ruled, decided, entryAt, entryOf, decisionOf, listed, rowsOf, factsOf}
+use Rattle.table.specs.Table.{settings, setting, ruled, decided, entryAt, entryOf, decisionOf, factsOf, entryIn, filled}
 use Rattle.table.specs.declared.Operation.{Operation}
 use Rattle.table.specs.declared.Operation.the-variants.{Read, Write, Move, Delete, Call, Invoke, Pass, Post}
 
@@ -50,20 +47,19 @@ entry-of op a b c d e f =
     let v : bit s 5 ≡ f = next a _ 4 ∙ next b _ 3 ∙ next c _ 2 ∙ next d _ 1 ∙ next e _ 0 ∙ last f in
     λ i. entryOf (decided op (p i) (q i) (r i) (t i) (u i) (v i))
 
--- ---- where an entry stands
+-- ---- from the one fact to each entry
 
-listed-at : {A : Type 0} (n : ℕ) (f : ℕ → A) (k : ℕ) (z : A) → k < n → getD (listed n f) k z ≡ f k
-unfolding listed
-listed-at zero f k z h = absurd (not-suc-le-zero h)
-listed-at (suc n) f zero z h = refl
-listed-at (suc n) f (suc k) z h = listed-at n (λ j. f (suc j)) k z (le-of-suc-le-suc h)
+module _ (op : Operation) (rows : List (List ℕ)) (all : filled op rows ≡ true) (s : ℕ) (h : s < settings) where
+  each : (eqb (entryIn rows s) (entryAt op s) && eqb (entryIn rows s) (entryIn rows (s % 2 ^ factsOf op))) ≡ true
+  unfolding filled
+  each = all-at settings (λ t. eqb (entryIn rows t) (entryAt op t) && eqb (entryIn rows t) (entryIn rows (t % 2 ^ factsOf op))) all s h
 
-pub found : (op : Operation) (s : ℕ) → s < settings → getD (getD (rowsOf op) (s / 8) []) (s % 8) 0 ≡ entryAt op s
-unfolding rowsOf
-found op s h =
-    ap (λ (row : List ℕ). getD row (s % 8) 0) (listed-at 8 _ (s / 8) [] (omega arith))
-    ∙ listed-at 8 (λ j. entryAt op (8 * (s / 8) + j)) (s % 8) 0 (omega arith)
-    ∙ ap (entryAt op) (omega arith)
+  pub found : entryIn rows s ≡ entryAt op s
+  found = eqb-true _ _ (and-l _ _ each)
+
+  -- facts past the operation's own make no difference
+  pub unused : entryIn rows s ≡ entryIn rows (s % 2 ^ factsOf op)
+  unused = eqb-true _ _ (and-r (eqb (entryIn rows s) (entryAt op s)) _ each)
 
 -- ---- what an entry says
 
@@ -114,22 +110,3 @@ verdicts Post a b c d e f = low-verdict _ (omega arith) (omega arith)
 pub says : (op : Operation) (a b c d e f : Bool) → decisionOf (entryOf (decided op a b c d e f)) ≡ decided op a b c d e f
 unfolding settled
 says op a b c d e f = told-apart _ (verdicts op a b c d e f)
-
--- ---- facts past an operation's own make no difference: computed over all 512 entries
-
-over-all : (op : Operation) → allB settings (λ s. eqb (entryAt op s) (entryAt op (s % 2 ^ factsOf op))) ≡ true
-unfolding allB bit unless settled ruled factsOf readDecision writeDecision moveDecision deleteDecision callDecision invokeDecision relayDecision
-over-all Read = refl
-over-all Write = refl
-over-all Move = refl
-over-all Delete = refl
-over-all Call = refl
-over-all Invoke = refl
-over-all Pass = refl
-over-all Post = refl
-
-own-facts : (op : Operation) (s : ℕ) → s < settings → entryAt op s ≡ entryAt op (s % 2 ^ factsOf op)
-own-facts op s h = eqb-true _ _ (all-at settings (λ t. eqb (entryAt op t) (entryAt op (t % 2 ^ factsOf op))) (over-all op) s h)
-
-pub unused : (op : Operation) (s t : ℕ) → s < settings → t < settings → s % 2 ^ factsOf op ≡ t % 2 ^ factsOf op → entryAt op s ≡ entryAt op t
-unused op s t h k e = own-facts op s h ∙ ap (entryAt op) e ∙ sym (own-facts op t k)

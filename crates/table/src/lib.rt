@@ -1,8 +1,9 @@
 // The decision table, and the two engines: by the table, and by the plain rules.
 ghost use mathlib.Core.Path.{_≡_};
+ghost use mathlib.Core.Bool.{true};
 ghost use Prim.Native.Nat.{_<_};
 ghost use Rattle.bits.specs.All.{one};
-ghost use Rattle.table.specs.Table.{setting, settings, ruled, decided, entryOf, decisionOf, rowsOf};
+ghost use Rattle.table.specs.Table.{setting, settings, ruled, decided, entryOf, decisionOf, filled};
 use decisions::Decision;
 use decisions::settled;
 
@@ -126,9 +127,9 @@ const POST: [[u8; 8]; 8] = [
 // In the place of a fact that an operation does not have.
 pub const UNUSED: bool = false;
 
-// An operation's entries.
+// An operation's entries. The contract is the fact about the whole table, computed over all entries.
 fn rows_of(operation: Operation) -> [[u8; 8]; 8]
-    ensures { λ r. ⌜ r ≡ rowsOf operation ⌝ }
+    ensures { λ r. ⌜ filled operation r ≡ true ⌝ }
 {
     match operation {
         Operation::Read => READ,
