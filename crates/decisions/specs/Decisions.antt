@@ -7,7 +7,7 @@ use Rattle.model.specs.Verdicts.{granted, slipped, row-path, row-rule, isDone}
 use Rattle.model.specs.Events.{Event, unless, verdictOf}
 use Rattle.decisions.specs.declared.Decision.{Decision}
 
--- ---- decisions. A flow is told by the order in which the event's effects name it
+-- ---- decisions. A fact is named by the two levels that it compares: that of the first is at or below that of the second; `read` is for the asking task's read level. A flow is the first or the second of its event, in document 01's order
 
 unfoldable pub readDecision : Bool → Bool → Bool → Bool → Bool → Bool → Decision
 readDecision task-driver read-driver task-object read-object driver-marked task-marked =
@@ -36,9 +36,8 @@ moveDecision object-task object-to driver-marked =
       second = driver-marked;
     }
 
--- the object is gone, so only the flow to its driver is left
 unfoldable pub deleteDecision : Bool → Bool → Decision
-deleteDecision object-task driver-marked = record { verdict = unless object-task row-rule granted; first = false; second = driver-marked }
+deleteDecision object-task driver-marked = record { verdict = unless object-task row-rule granted; first = driver-marked; second = false }
 
 unfoldable pub callDecision : Bool → Bool → Bool → Bool → Decision
 callDecision caller-callee read-callee caller-marked callee-marked =
@@ -57,7 +56,7 @@ relayDecision reader-object read-object reader-driver read-driver reader-marked 
     let risky = (not reader-object && read-object) || (not reader-driver && read-driver) in
     record { verdict = unless (not risky || reader-marked) row-rule granted; first = true; second = false }
 
--- a decision, settled: a refusal has no flow
+-- as both engines give it: a refusing decision has no flow
 unfoldable pub settled : Decision → Decision
 settled d = record { verdict = d .verdict; first = isDone (d .verdict) && d .first; second = isDone (d .verdict) && d .second }
 
@@ -65,6 +64,6 @@ settled d = record { verdict = d .verdict; first = isDone (d .verdict) && d .fir
 unfoldable pub apart : Bool → ℕ → ℕ
 apart below v = unless (below || eqb v row-path) row-rule v
 
--- a decision with the verdict of the whole table
+-- a decision with the verdict of all its event's rows; its flows count only where that is granted or slipped
 abbrev pub judged : Event → Decision → Decision
 judged e d = record { verdict = verdictOf e; first = d .first; second = d .second }

@@ -11,7 +11,7 @@ use model::PATH;
 use model::RULE;
 use model::SLIPPED;
 
-// The verdict that the level tests give, and which of the event's two flows are recorded.
+// The verdict that the level tests give, and which of the event's flows, at most two, are recorded.
 pub struct Decision {
     pub verdict: u8,
     pub first: bool,
@@ -24,7 +24,7 @@ pub fn unless(ok: bool, row: u8, rest: u8) -> u8
     if ok { rest } else { row }
 }
 
-// Each fact is named by the two levels compared, the lower first, or by the thing that is marked.
+// A fact is named by the two levels that it compares: that of the first is at or below that of the second. `read` is for the asking task's read level.
 pub fn read(
     task_driver: bool,
     read_driver: bool,
@@ -71,14 +71,13 @@ pub fn move_object(object_task: bool, object_to: bool, driver_marked: bool) -> D
     }
 }
 
-// The object is gone, so only the flow to its driver is left.
 pub fn delete(object_task: bool, driver_marked: bool) -> Decision
     ensures { λ r. ⌜ r ≡ deleteDecision «object_task» «driver_marked» ⌝ }
 {
     Decision {
         verdict: unless(object_task, RULE, GRANTED),
-        first: false,
-        second: driver_marked,
+        first: driver_marked,
+        second: false,
     }
 }
 
@@ -126,7 +125,7 @@ pub fn relay(
     }
 }
 
-// A refusal has no flow.
+// A refusing decision has no flow.
 pub fn settled(judged: Decision) -> Decision
     ensures { λ r. ⌜ r ≡ settled judged ⌝ }
 {

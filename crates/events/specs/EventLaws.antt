@@ -28,7 +28,7 @@ use Rattle.decisions.specs.Decisions.{apart, readDecision, writeDecision, moveD
 use Rattle.decisions.specs.Facts.{writes, bothWrite}
 use Rattle.decisions.specs.DecisionLaws.{Told, told-by, told-tests, turned-away, under, ends-done, apart-joins, task-small, object-small}
 use Rattle.table.specs.Table.{ruled}
-use Rattle.events.specs.Judged.{allWrite, mayMove, moveNamed, isEmpty, driven, lastRows, moveRows, deleteRows, readDecided, writeDecided, moveDecided, deleteDecided, readJudged, writeJudged, moveJudged, deleteJudged}
+use Rattle.events.specs.Judged.{allWrite, mayMove, moveNamed, isEmpty, driven, lastRows, moveRows, deleteRows, readRuled, writeRuled, moveRuled, deleteRuled, readJudged, writeJudged, moveJudged, deleteJudged, readDoes, writeDoes, moveDoes, deleteDoes}
 
 -- a flow that one of two conditions records, of which at most one holds, is recorded where either holds
 one-flow : (b p q : Bool) (x y : ℕ) (rest : List Effect) (m : Memory)
@@ -129,41 +129,41 @@ module _ (o : Order) (m : Memory) where
   -- ---- read and write
   module _ (e d x : ℕ) where
     pub read-verdict : verdictOf (read o m e d x)
-        ≡ driven (m .bytes) (task m e && task m d && object m x) d x (apart (L x ⊑ L d) (readDecided o m e d x .verdict))
-    unfolding verdictOf firstFailing unless read readDecided ruled readDecision driven
+        ≡ driven (m .bytes) (task m e && task m d && object m x) d x (apart (L x ⊑ L d) (readRuled o m e d x .verdict))
+    unfolding verdictOf firstFailing unless read readRuled ruled readDecision driven
     read-verdict =
         let honest = L e ⊑ L x || R e ⊑ L x in
         ap (driven (m .bytes) (task m e && task m d && object m x) d x)
         (apart-joins (L e ⊑ L d || R e ⊑ L d) (honest || marked m d) true (L x ⊑ L d) honest)
 
-    pub read-told : Told m (read o m e d x) (readJudged o m e d x) (λ j. read-access e x ∷ flow-if (j .first) x e ∷ flow-if (j .second) d e ∷ [])
-    unfolding read readDecided ruled readDecision unless effects
+    pub read-told : Told m (read o m e d x) (readJudged o m e d x) (λ j. readDoes e d x (j .first) (j .second))
+    unfolding read readRuled ruled readDecision unless effects
     read-told =
         let to-driver = marked m e || L e ⊑ L d in
-        told-by (readDecided o m e d x) refl (λ f s. read-access e x ∷ flow-if f x e ∷ flow-if s d e ∷ []) (λ t. rw (t .1 .1 .0, t .1 .1 .1 .0) (ends-done (L e ⊑ L x || R e ⊑ L x)))
+        told-by (readRuled o m e d x) refl (readDoes e d x) (λ t. rw (t .1 .1 .0, t .1 .1 .1 .0) (ends-done (L e ⊑ L x || R e ⊑ L x)))
         (one-flow (marked m d) (marked m e || (L e ⊑ L x && L e ⊑ L d)) to-driver x e (flow-if (marked m d && to-driver) d e ∷ []) (effect (read-access e x) m))
 
     pub write-verdict : verdictOf (write o m e d x)
-        ≡ driven (m .bytes) (task m e && task m d && object m x) d x (apart (L x ⊑ L d) (writeDecided o m e d x .verdict))
-    unfolding verdictOf firstFailing unless write writeDecided ruled writeDecision driven
+        ≡ driven (m .bytes) (task m e && task m d && object m x) d x (apart (L x ⊑ L d) (writeRuled o m e d x .verdict))
+    unfolding verdictOf firstFailing unless write writeRuled ruled writeDecision driven
     write-verdict =
         let honest = L x ⊑ L e in
         ap (driven (m .bytes) (task m e && task m d && object m x) d x)
         (apart-joins true (honest || marked m d) true (L x ⊑ L d) honest)
 
-    pub write-told : Told m (write o m e d x) (writeJudged o m e d x) (λ j. write-access e x ∷ flow-if (j .first) e x ∷ flow-if (j .second) e d ∷ [])
-    unfolding write writeDecided ruled writeDecision unless effects effect
-    write-told = told-by (writeDecided o m e d x) refl (λ f s. write-access e x ∷ flow-if f e x ∷ flow-if s e d ∷ []) (λ t. rw (t .1 .1 .0) (ends-done (L x ⊑ L e))) refl
+    pub write-told : Told m (write o m e d x) (writeJudged o m e d x) (λ j. writeDoes e d x (j .first) (j .second))
+    unfolding write writeRuled ruled writeDecision unless effects effect
+    write-told = told-by (writeRuled o m e d x) refl (writeDoes e d x) (λ t. rw (t .1 .1 .0) (ends-done (L x ⊑ L e))) refl
 
   -- ---- move and delete
   pub move-told : (e d x f t : ℕ) → Told m (move o m e d x f t) (moveJudged o m e d x f t)
-      (λ j. move-to x t ∷ flow-if (j .first) e x ∷ flow-if (j .second) e d ∷ [])
-  unfolding move moveDecided ruled moveDecision unless effects effect
-  move-told e d x f t = told-by (moveDecided o m e d x t) refl (λ a b. move-to x t ∷ flow-if a e x ∷ flow-if b e d ∷ []) (λ p. rw (p .1 .1 .1 .1 .0, and-r (L x ⊑ L d) (L x ⊑ L t) (p .1 .1 .1 .1 .1 .0)) (ends-done (L x ⊑ L e))) refl
+      (λ j. moveDoes e d x t (j .first) (j .second))
+  unfolding move moveRuled ruled moveDecision unless effects effect
+  move-told e d x f t = told-by (moveRuled o m e d x t) refl (moveDoes e d x t) (λ p. rw (p .1 .1 .1 .1 .0, and-r (L x ⊑ L d) (L x ⊑ L t) (p .1 .1 .1 .1 .1 .0)) (ends-done (L x ⊑ L e))) refl
 
-  pub delete-told : (e d x k : ℕ) → Told m (delete o m e d x k) (deleteJudged o m e d x k) (λ j. bridge x ∷ clear x ∷ flow-if (j .second) e d ∷ [])
-  unfolding delete deleteDecided ruled deleteDecision unless effects effect
-  delete-told e d x k = told-by (deleteDecided o m e d x) refl (λ a b. bridge x ∷ clear x ∷ flow-if b e d ∷ []) (λ t. rw (and-l (L x ⊑ L e) (L x ⊑ L d) (t .1 .1 .1 .1 .0))) refl
+  pub delete-told : (e d x k : ℕ) → Told m (delete o m e d x k) (deleteJudged o m e d x k) (λ j. deleteDoes e d x (j .first) (j .second))
+  unfolding delete deleteRuled ruled deleteDecision unless effects effect
+  delete-told e d x k = told-by (deleteRuled o m e d x) refl (deleteDoes e d x) (λ t. rw (and-l (L x ⊑ L e) (L x ⊑ L d) (t .1 .1 .1 .1 .0))) refl
 
   -- an access is looked for in its table, past which there is none; and an object's container by its byte
   module _ (r : Ready o (m .bytes) (m .words)) where
@@ -172,8 +172,8 @@ module _ (o : Order) (m : Memory) where
     lies x k h = lies-in present o (m .bytes) (r .3) x k (eqb-true _ 2 h)
 
     pub move-verdict : (e d x f t : ℕ) → verdictOf (move o m e d x f t)
-        ≡ moveRows (m .bytes) (m .words) e d x f t (apart (L x ⊑ L d) (moveDecided o m e d x t .verdict))
-    unfolding verdictOf firstFailing unless move moveDecided ruled moveDecision task object hasWrite moveNamed mayMove writes allWrite driven moveRows
+        ≡ moveRows (m .bytes) (m .words) e d x f t (apart (L x ⊑ L d) (moveRuled o m e d x t .verdict))
+    unfolding verdictOf firstFailing unless move moveRuled ruled moveDecision task object hasWrite moveNamed mayMove writes allWrite driven moveRows
     move-verdict e d x f t =
         let honest = L x ⊑ L e in
         under (moveNamed (m .bytes) e d x f t) _ _ _
@@ -197,8 +197,8 @@ module _ (o : Order) (m : Memory) where
     empty-is x h = ap not (any-ext numbers _ _ (λ y l. ap (λ (b : Bool). isObject (m .bytes) y && b) (lies y x h)))
 
     pub delete-verdict : (e d x k : ℕ) → verdictOf (delete o m e d x k)
-        ≡ deleteRows (m .bytes) (m .words) e d x k (apart (L x ⊑ L d) (deleteDecided o m e d x .verdict))
-    unfolding verdictOf firstFailing delete deleteDecided ruled deleteDecision task object hasWrite writes bothWrite driven deleteRows
+        ≡ deleteRows (m .bytes) (m .words) e d x k (apart (L x ⊑ L d) (deleteRuled o m e d x .verdict))
+    unfolding verdictOf firstFailing delete deleteRuled ruled deleteDecision task object hasWrite writes bothWrite driven deleteRows
     delete-verdict e d x k =
         last-two named (eqb (driverOf m x) d) (liesIn m x k) (hasWrite m e k && hasWrite m d k) (L x ⊑ L e) (L x ⊑ L d) empty (feedsUnmarked m x)
         ∙ ⊎-elim

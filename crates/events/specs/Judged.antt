@@ -1,7 +1,7 @@
--- The tests and rows of the events on objects, the facts that each goes by, and its decision with the verdict of its whole table.
+-- The tests and rows of the events on objects, the facts that each goes by, its decision with the verdict of all its rows, and what it leaves by a decision.
 -- Assumes nothing.
 use mathlib.Core.Bool.{Bool, false, not, _&&_, _||_}
-use mathlib.Core.List.{List}
+use mathlib.Core.List.{List, [], _∷_}
 use Prim.Native.Nat.{ℕ}
 use lib.Dec.{eqb}
 use Rattle.bits.specs.All.{anyB}
@@ -11,6 +11,7 @@ use Rattle.levels.specs.declared.Order.{Order}
 use Rattle.levels.specs.Order.{atOrBelow}
 use Rattle.model.specs.Verdicts.{granted, row-number, row-driver, row-place, row-held, row-filled, row-feeding}
 use Rattle.model.specs.State.{Memory, memory, levelOf, readLevelOf, marked}
+use Rattle.model.specs.Effects.{Effect, flow-if, read-access, write-access, move-to, bridge, clear}
 use Rattle.model.specs.Events.{unless, feedsUnmarked, read, write, move, delete}
 use Rattle.places.specs.Places.{bytesInside}
 use Rattle.decisions.specs.declared.Decision.{Decision}
@@ -57,6 +58,21 @@ deleteRows bs ws e d x k rest =
     (driven bs (isTask bs e && isTask bs d && isObject bs x && isObject bs k) d x
     (unless (eqb (container bs x) k) row-place (unless (bothWrite ws e d k) row-held rest)))
 
+-- ---- what each event does where it is done, and its flows in document 01's order: whether the first is recorded, and the second
+
+abbrev pub readDoes : ℕ → ℕ → ℕ → Bool → Bool → List Effect
+readDoes e d x first second = read-access e x ∷ flow-if first x e ∷ flow-if second d e ∷ []
+
+abbrev pub writeDoes : ℕ → ℕ → ℕ → Bool → Bool → List Effect
+writeDoes e d x first second = write-access e x ∷ flow-if first e x ∷ flow-if second e d ∷ []
+
+abbrev pub moveDoes : ℕ → ℕ → ℕ → ℕ → Bool → Bool → List Effect
+moveDoes e d x t first second = move-to x t ∷ flow-if first e x ∷ flow-if second e d ∷ []
+
+-- one flow alone
+abbrev pub deleteDoes : ℕ → ℕ → ℕ → Bool → Bool → List Effect
+deleteDoes e d x first second = bridge x ∷ clear x ∷ flow-if first e d ∷ []
+
 module _ (o : Order) (m : Memory) where
   infix 40 _⊑_
   abbrev _⊑_ : ℕ → ℕ → Bool
@@ -68,26 +84,26 @@ module _ (o : Order) (m : Memory) where
   abbrev R : ℕ → ℕ
   R x = readLevelOf m x
 
-  unfoldable pub readDecided : ℕ → ℕ → ℕ → Decision
-  readDecided e d x = ruled Read (L e ⊑ L d) (R e ⊑ L d) (L e ⊑ L x) (R e ⊑ L x) (marked m d) (marked m e)
+  unfoldable pub readRuled : ℕ → ℕ → ℕ → Decision
+  readRuled e d x = ruled Read (L e ⊑ L d) (R e ⊑ L d) (L e ⊑ L x) (R e ⊑ L x) (marked m d) (marked m e)
 
   abbrev pub readJudged : ℕ → ℕ → ℕ → Decision
-  readJudged e d x = judged (read o m e d x) (settled (readDecided e d x))
+  readJudged e d x = judged (read o m e d x) (settled (readRuled e d x))
 
-  unfoldable pub writeDecided : ℕ → ℕ → ℕ → Decision
-  writeDecided e d x = ruled Write (L x ⊑ L e) (marked m d) false false false false
+  unfoldable pub writeRuled : ℕ → ℕ → ℕ → Decision
+  writeRuled e d x = ruled Write (L x ⊑ L e) (marked m d) false false false false
 
   abbrev pub writeJudged : ℕ → ℕ → ℕ → Decision
-  writeJudged e d x = judged (write o m e d x) (settled (writeDecided e d x))
+  writeJudged e d x = judged (write o m e d x) (settled (writeRuled e d x))
 
-  unfoldable pub moveDecided : ℕ → ℕ → ℕ → ℕ → Decision
-  moveDecided e d x t = ruled Move (L x ⊑ L e) (L x ⊑ L t) (marked m d) false false false
+  unfoldable pub moveRuled : ℕ → ℕ → ℕ → ℕ → Decision
+  moveRuled e d x t = ruled Move (L x ⊑ L e) (L x ⊑ L t) (marked m d) false false false
 
   abbrev pub moveJudged : ℕ → ℕ → ℕ → ℕ → ℕ → Decision
-  moveJudged e d x f t = judged (move o m e d x f t) (settled (moveDecided e d x t))
+  moveJudged e d x f t = judged (move o m e d x f t) (settled (moveRuled e d x t))
 
-  unfoldable pub deleteDecided : ℕ → ℕ → ℕ → Decision
-  deleteDecided e d x = ruled Delete (L x ⊑ L e) (marked m d) false false false false
+  unfoldable pub deleteRuled : ℕ → ℕ → ℕ → Decision
+  deleteRuled e d x = ruled Delete (L x ⊑ L e) (marked m d) false false false false
 
   abbrev pub deleteJudged : ℕ → ℕ → ℕ → ℕ → Decision
-  deleteJudged e d x k = judged (delete o m e d x k) (settled (deleteDecided e d x))
+  deleteJudged e d x k = judged (delete o m e d x k) (settled (deleteRuled e d x))

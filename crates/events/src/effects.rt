@@ -1,12 +1,13 @@
 // What each event leaves when it is done.
 ghost use mathlib.Core.Path.{_≡_};
 ghost use mathlib.Core.Bool.{true};
-ghost use mathlib.Core.List.{List, [], _∷_};
+ghost use mathlib.Core.List.{List};
 ghost use Prim.Native.Nat.{ℕ, _<_};
 ghost use Rattle.rows.specs.Size.{numbers, WordsLent};
 ghost use Rattle.records.specs.Records.{BytesLent, isObject};
 ghost use Rattle.model.specs.State.{memory};
-ghost use Rattle.model.specs.Effects.{flow-if, read-access, write-access, move-to, bridge, clear, effects};
+ghost use Rattle.model.specs.Effects.{effects};
+ghost use Rattle.events.specs.Judged.{readDoes, writeDoes, moveDoes, deleteDoes};
 use decisions::Decision;
 use decisions::effects::add_access;
 use decisions::effects::record_both;
@@ -19,7 +20,7 @@ use rows::WRITES;
 
 pub fn read(words: &mut [u64], judged: Decision, e: u16, d: u16, x: u16)
     requires { ⌜ e < numbers ⌝ }
-    ensures { λ _. ⌜ ((bs : List ℕ) → memory bs (now (words .exit)) ≡ effects (read-access e x ∷ flow-if (judged .first) x e ∷ flow-if (judged .second) d e ∷ []) (memory bs (now (words .entry)))) ⌝ }
+    ensures { λ _. ⌜ ((bs : List ℕ) → memory bs (now (words .exit)) ≡ effects (readDoes e d x (judged .first) (judged .second)) (memory bs (now (words .entry)))) ⌝ }
 {
     add_access(words, READS, e, x);
     record_both(words, judged, x, e, d, e);
@@ -27,7 +28,7 @@ pub fn read(words: &mut [u64], judged: Decision, e: u16, d: u16, x: u16)
 
 pub fn write(words: &mut [u64], judged: Decision, e: u16, d: u16, x: u16)
     requires { ⌜ e < numbers ⌝ }
-    ensures { λ _. ⌜ ((bs : List ℕ) → memory bs (now (words .exit)) ≡ effects (write-access e x ∷ flow-if (judged .first) e x ∷ flow-if (judged .second) e d ∷ []) (memory bs (now (words .entry)))) ⌝ }
+    ensures { λ _. ⌜ ((bs : List ℕ) → memory bs (now (words .exit)) ≡ effects (writeDoes e d x (judged .first) (judged .second)) (memory bs (now (words .entry)))) ⌝ }
 {
     add_access(words, WRITES, e, x);
     record_both(words, judged, e, x, e, d);
@@ -43,7 +44,7 @@ pub fn move_object(
     t: u16,
 )
     requires { ⌜ t < numbers ⌝ }
-    ensures { λ _. ⌜ memory (now (bytes .exit)) (now (words .exit)) ≡ effects (move-to x t ∷ flow-if (judged .first) e x ∷ flow-if (judged .second) e d ∷ []) (memory (now (bytes .entry)) (now (words .entry))) ⌝ }
+    ensures { λ _. ⌜ memory (now (bytes .exit)) (now (words .exit)) ≡ effects (moveDoes e d x t (judged .first) (judged .second)) (memory (now (bytes .entry)) (now (words .entry))) ⌝ }
 {
     set_field(bytes, x, CONTAINER, t as u8);
     record_both(words, judged, e, x, e, d);
@@ -52,10 +53,10 @@ pub fn move_object(
 // Bridged first, while the object's record and its flows still stand.
 pub fn delete(bytes: &mut [u8], words: &mut [u64], judged: Decision, e: u16, d: u16, x: u16)
     requires { ⌜ BytesLent (now bytes) × WordsLent (now words) × (x < numbers) × (isObject (now bytes) x ≡ true) ⌝ }
-    ensures { λ _. ⌜ memory (now (bytes .exit)) (now (words .exit)) ≡ effects (bridge x ∷ clear x ∷ flow-if (judged .second) e d ∷ []) (memory (now (bytes .entry)) (now (words .entry))) ⌝ }
+    ensures { λ _. ⌜ memory (now (bytes .exit)) (now (words .exit)) ≡ effects (deleteDoes e d x (judged .first) (judged .second)) (memory (now (bytes .entry)) (now (words .entry))) ⌝ }
 {
     bridging::bridge(bytes, words, x);
     set_record(bytes, x, FREE, 0, 0, 0, 0, 0);
     rows::clear_thing(words, x);
-    rows::add_if(words, judged.second, e, d);
+    rows::add_if(words, judged.first, e, d);
 }

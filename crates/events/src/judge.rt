@@ -9,7 +9,7 @@ ghost use Rattle.model.specs.State.{memory};
 ghost use Rattle.model.specs.Ready.{Ready};
 ghost use Rattle.model.specs.Events.{feedsUnmarked};
 ghost use Rattle.decisions.specs.Decisions.{settled};
-ghost use Rattle.events.specs.Judged.{allWrite, mayMove, moveNamed, isEmpty, driven, lastRows, moveRows, deleteRows, readDecided, writeDecided, moveDecided, deleteDecided, readJudged, writeJudged, moveJudged, deleteJudged};
+ghost use Rattle.events.specs.Judged.{allWrite, mayMove, moveNamed, isEmpty, driven, lastRows, moveRows, deleteRows, readRuled, writeRuled, moveRuled, deleteRuled, readJudged, writeJudged, moveJudged, deleteJudged};
 use bridging::feeds_unmarked;
 use decisions::Decision;
 use decisions::apart;
@@ -47,7 +47,7 @@ fn driven(bytes: &[u8], named: bool, d: u16, x: u16, rest: u8) -> u8
 }
 
 fn read_decided(bytes: &[u8], order: Order, engine: Engine, e: u16, d: u16, x: u16) -> Decision
-    ensures { λ r. ⌜ ((ws : List ℕ) → r ≡ settled (readDecided order (memory (now (bytes .entry)) ws) e d x)) ⌝ }
+    ensures { λ r. ⌜ ((ws : List ℕ) → r ≡ settled (readRuled order (memory (now (bytes .entry)) ws) e d x)) ⌝ }
 {
     decide(
         engine,
@@ -71,7 +71,7 @@ pub fn read(bytes: &[u8], order: Order, engine: Engine, e: u16, d: u16, x: u16) 
 }
 
 fn write_decided(bytes: &[u8], order: Order, engine: Engine, e: u16, d: u16, x: u16) -> Decision
-    ensures { λ r. ⌜ ((ws : List ℕ) → r ≡ settled (writeDecided order (memory (now (bytes .entry)) ws) e d x)) ⌝ }
+    ensures { λ r. ⌜ ((ws : List ℕ) → r ≡ settled (writeRuled order (memory (now (bytes .entry)) ws) e d x)) ⌝ }
 {
     decide(
         engine,
@@ -103,7 +103,7 @@ fn move_decided(
     x: u16,
     t: u16,
 ) -> Decision
-    ensures { λ r. ⌜ ((ws : List ℕ) → r ≡ settled (moveDecided order (memory (now (bytes .entry)) ws) e d x t)) ⌝ }
+    ensures { λ r. ⌜ ((ws : List ℕ) → r ≡ settled (moveRuled order (memory (now (bytes .entry)) ws) e d x t)) ⌝ }
 {
     decide(
         engine,
@@ -171,7 +171,7 @@ pub fn move_object(
 }
 
 fn delete_decided(bytes: &[u8], order: Order, engine: Engine, e: u16, d: u16, x: u16) -> Decision
-    ensures { λ r. ⌜ ((ws : List ℕ) → r ≡ settled (deleteDecided order (memory (now (bytes .entry)) ws) e d x)) ⌝ }
+    ensures { λ r. ⌜ ((ws : List ℕ) → r ≡ settled (deleteRuled order (memory (now (bytes .entry)) ws) e d x)) ⌝ }
 {
     decide(
         engine,

@@ -1,16 +1,30 @@
--- The facts that each event of flows goes by, and its decision with the verdict of its whole table.
+-- The facts that each event of flows goes by, its decision with the verdict of all its rows, and what it leaves by a decision.
 -- Assumes nothing.
 use mathlib.Core.Bool.{Bool, true, false}
+use mathlib.Core.List.{List, [], _∷_}
 use Prim.Native.Nat.{ℕ}
 use Rattle.levels.specs.declared.Order.{Order}
 use Rattle.levels.specs.Order.{atOrBelow}
 use Rattle.model.specs.State.{Memory, levelOf, readLevelOf, driverOf, marked}
+use Rattle.model.specs.Effects.{Effect, flow-if}
 use Rattle.model.specs.Events.{verdictOf, callTask, invoke, pass, post, find}
 use Rattle.decisions.specs.declared.Decision.{Decision}
 use Rattle.decisions.specs.Decisions.{settled, judged}
 use Rattle.table.specs.declared.Operation.{Operation}
 use Rattle.table.specs.declared.Operation.the-variants.{Call, Invoke, Pass, Post}
 use Rattle.table.specs.Table.{ruled}
+
+-- ---- the flows of each event, in document 01's order: whether the first is recorded, and the second
+
+abbrev pub callDoes : ℕ → ℕ → Bool → Bool → List Effect
+callDoes a b first second = flow-if first b a ∷ flow-if second a b ∷ []
+
+abbrev pub invokeDoes : ℕ → ℕ → Bool → Bool → List Effect
+invokeDoes a b first second = flow-if first a b ∷ flow-if second b a ∷ []
+
+-- one flow alone: of a pass, a post and a find
+abbrev pub relayDoes : ℕ → ℕ → Bool → Bool → List Effect
+relayDoes x y first second = flow-if first x y ∷ []
 
 module _ (o : Order) (m : Memory) where
   infix 40 _⊑_
@@ -23,27 +37,27 @@ module _ (o : Order) (m : Memory) where
   abbrev R : ℕ → ℕ
   R x = readLevelOf m x
 
-  unfoldable pub callDecided : ℕ → ℕ → Decision
-  callDecided a b = ruled Call (L a ⊑ L b) (R a ⊑ L b) (marked m a) (marked m b) false false
+  unfoldable pub callRuled : ℕ → ℕ → Decision
+  callRuled a b = ruled Call (L a ⊑ L b) (R a ⊑ L b) (marked m a) (marked m b) false false
 
   abbrev pub callJudged : ℕ → ℕ → Decision
-  callJudged a b = judged (callTask o m a b) (settled (callDecided a b))
+  callJudged a b = judged (callTask o m a b) (settled (callRuled a b))
 
-  unfoldable pub invokeDecided : ℕ → ℕ → Decision
-  invokeDecided a b = ruled Invoke (L b ⊑ L a) (marked m a) false false false false
+  unfoldable pub invokeRuled : ℕ → ℕ → Decision
+  invokeRuled a b = ruled Invoke (L b ⊑ L a) (marked m a) false false false false
 
   abbrev pub invokeJudged : ℕ → ℕ → Decision
-  invokeJudged a b = judged (invoke o m a b) (settled (invokeDecided a b))
+  invokeJudged a b = judged (invoke o m a b) (settled (invokeRuled a b))
 
-  -- what the task z read of the object x goes on, by a pass or a post
-  unfoldable pub relayDecided : Operation → ℕ → ℕ → Decision
-  relayDecided op z x = ruled op (L z ⊑ L x) (R z ⊑ L x) (L z ⊑ L (driverOf m x)) (R z ⊑ L (driverOf m x)) (marked m z) false
+  -- whether what the task z read of the object x goes on, by a pass or a post
+  unfoldable pub relayRuled : Operation → ℕ → ℕ → Decision
+  relayRuled op z x = ruled op (L z ⊑ L x) (R z ⊑ L x) (L z ⊑ L (driverOf m x)) (R z ⊑ L (driverOf m x)) (marked m z) false
 
   abbrev pub passJudged : ℕ → ℕ → ℕ → Decision
-  passJudged z x y = judged (pass o m z x y) (settled (relayDecided Pass z x))
+  passJudged z x y = judged (pass o m z x y) (settled (relayRuled Pass z x))
 
   abbrev pub postJudged : ℕ → ℕ → ℕ → Decision
-  postJudged x z y = judged (post o m x z y) (settled (relayDecided Post y z))
+  postJudged x z y = judged (post o m x z y) (settled (relayRuled Post y z))
 
   abbrev pub findJudged : ℕ → ℕ → ℕ → Decision
   findJudged x z y = record { verdict = verdictOf (find o m x z y); first = true; second = false }

@@ -5,7 +5,7 @@ ghost use Prim.Native.Nat.{ℕ};
 ghost use Rattle.records.specs.Records.{BytesLent};
 ghost use Rattle.model.specs.State.{memory};
 ghost use Rattle.decisions.specs.Decisions.{settled};
-ghost use Rattle.flows.specs.Judged.{relayDecided, callJudged, invokeJudged, passJudged, postJudged, findJudged};
+ghost use Rattle.flows.specs.Judged.{relayRuled, callJudged, invokeJudged, passJudged, postJudged, findJudged};
 use decisions::Decision;
 use decisions::facts::below;
 use decisions::facts::has_access;
@@ -73,7 +73,7 @@ fn relay(
     z: u16,
     x: u16,
 ) -> Decision
-    ensures { λ r. ⌜ ((ws : List ℕ) → r ≡ settled (relayDecided order (memory (now (bytes .entry)) ws) operation z x)) ⌝ }
+    ensures { λ r. ⌜ ((ws : List ℕ) → r ≡ settled (relayRuled order (memory (now (bytes .entry)) ws) operation z x)) ⌝ }
 {
     let driver = records::field(bytes, x, DRIVER) as u16;
     decide(

@@ -12,44 +12,22 @@ use Rattle.decisions.specs.Decisions.{settled, readDecision, writeDecision, mov
 use Rattle.table.specs.declared.Operation.{Operation}
 use Rattle.table.specs.declared.Operation.the-variants.{Read, Write, Move, Delete, Call, Invoke, Pass, Post}
 
--- ---- the plain rules
+-- ---- decisions
 
--- the rule of each operation on its facts, fact 0 first; it does not look at the facts past its own
+-- the plain rule of each operation on its facts, fact 0 first; it does not look at those past its own
 unfoldable pub ruled : Operation → Bool → Bool → Bool → Bool → Bool → Bool → Decision
-ruled Read a b c d e f = readDecision a b c d e f
-ruled Write a b c d e f = writeDecision a b
-ruled Move a b c d e f = moveDecision a b c
-ruled Delete a b c d e f = deleteDecision a b
-ruled Call a b c d e f = callDecision a b c d
-ruled Invoke a b c d e f = invokeDecision a b
-ruled Pass a b c d e f = relayDecision a b c d e
-ruled Post a b c d e f = relayDecision a b c d e
+ruled Read f0 f1 f2 f3 f4 f5 = readDecision f0 f1 f2 f3 f4 f5
+ruled Write f0 f1 f2 f3 f4 f5 = writeDecision f0 f1
+ruled Move f0 f1 f2 f3 f4 f5 = moveDecision f0 f1 f2
+ruled Delete f0 f1 f2 f3 f4 f5 = deleteDecision f0 f1
+ruled Call f0 f1 f2 f3 f4 f5 = callDecision f0 f1 f2 f3
+ruled Invoke f0 f1 f2 f3 f4 f5 = invokeDecision f0 f1
+ruled Pass f0 f1 f2 f3 f4 f5 = relayDecision f0 f1 f2 f3 f4
+ruled Post f0 f1 f2 f3 f4 f5 = relayDecision f0 f1 f2 f3 f4
 
--- a decision, by either engine: a refusal has no flow
+-- the decision, by either engine
 abbrev pub decided : Operation → Bool → Bool → Bool → Bool → Bool → Bool → Decision
-decided op a b c d e f = settled (ruled op a b c d e f)
-
--- ---- settings: fact i is bit i of the setting's number
-
-abbrev pub settings : ℕ
-settings = 64
-
-abbrev pub setting : Bool → Bool → Bool → Bool → Bool → Bool → ℕ
-setting a b c d e f = one a + 2 * (one b + 2 * (one c + 2 * (one d + 2 * (one e + 2 * one f))))
-
--- ---- entries
-
--- the number of a decision: its verdict, with 16 added where the first flow is recorded, and 32 where the second is
-abbrev pub entryOf : Decision → ℕ
-entryOf d = d .verdict + 16 * one (d .first) + 32 * one (d .second)
-
--- and back
-abbrev pub decisionOf : ℕ → Decision
-decisionOf n = record { verdict = n % 16; first = eqb (n / 16 % 2) 1; second = eqb (n / 32 % 2) 1 }
-
--- what stands in the table for a setting: the number of the decision on its facts
-abbrev pub entryAt : Operation → ℕ → ℕ
-entryAt op s = entryOf (decided op (bit s 0) (bit s 1) (bit s 2) (bit s 3) (bit s 4) (bit s 5))
+decided op f0 f1 f2 f3 f4 f5 = settled (ruled op f0 f1 f2 f3 f4 f5)
 
 -- how many facts an operation has
 unfoldable pub factsOf : Operation → ℕ
@@ -62,10 +40,32 @@ factsOf Invoke = 2
 factsOf Pass = 5
 factsOf Post = 5
 
--- what stands for a setting in an operation's part of the table, eight rows of eight: row s / 8, column s % 8
+-- ---- "64 settings of six yes-or-no facts": fact i is bit i of the setting's number
+
+abbrev pub settings : ℕ
+settings = 64
+
+abbrev pub setting : Bool → Bool → Bool → Bool → Bool → Bool → ℕ
+setting f0 f1 f2 f3 f4 f5 = one f0 + 2 * (one f1 + 2 * (one f2 + 2 * (one f3 + 2 * (one f4 + 2 * one f5))))
+
+-- ---- entries
+
+-- the number of a decision: its verdict, with 16 added where the first flow is recorded and 32 where the second is
+abbrev pub entryOf : Decision → ℕ
+entryOf d = d .verdict + 16 * one (d .first) + 32 * one (d .second)
+
+-- and back: bits 4 and 5 are the flows
+abbrev pub decisionOf : ℕ → Decision
+decisionOf n = record { verdict = n % 16; first = bit n 4; second = bit n 5 }
+
+-- what has to stand for a setting: the number of the decision on its facts
+abbrev pub entryAt : Operation → ℕ → ℕ
+entryAt op s = entryOf (decided op (bit s 0) (bit s 1) (bit s 2) (bit s 3) (bit s 4) (bit s 5))
+
+-- what stands for it in an operation's part of the table, eight rows of eight: row s / 8, column s % 8
 abbrev pub entryIn : List (List ℕ) → ℕ → ℕ
 entryIn rows s = getD (getD rows (s / 8) []) (s % 8) 0
 
--- the one fact about the table: each entry is the number of the decision on its facts, and facts past the operation's own make no difference
+-- the fact about the table, for each operation's part: every entry is the number of the plain decision on its facts, and facts past the operation's own make no difference
 unfoldable pub filled : Operation → List (List ℕ) → Bool
 filled op rows = allB settings (λ s. eqb (entryIn rows s) (entryAt op s) && eqb (entryIn rows s) (entryIn rows (s % 2 ^ factsOf op)))

@@ -1,13 +1,13 @@
 -- Laws of the table: an entry is found by its setting and says its decision.
 -- Assumes nothing.
 use mathlib.Core.Path.{_≡_, refl, ap, _∙_}
-use mathlib.Core.Bool.{Bool, true, false, _&&_}
+use mathlib.Core.Bool.{Bool, true, false, not, _&&_}
 use mathlib.Core.List.{List}
 use Prim.Native.Nat.{ℕ, suc, _+_, _*_, _/_, _%_, _^_, _<_}
 use native.Mathlib.Omega.{arith}
 use lib.Dec.{eqb}
 use borrow.Author.Tests.{eqb-true}
-use Rattle.bits.specs.All.{one}
+use Rattle.bits.specs.All.{one, allB, anyB}
 use Rattle.bits.specs.AllLaws.{and-l, and-r, all-at}
 use Rattle.bits.specs.Bit.{bit}
 use Rattle.bits.specs.BitLaws.{bit-low, bit-half}
@@ -36,39 +36,25 @@ unfolding bit
 last true = refl
 last false = refl
 
-pub entry-of : (op : Operation) (a b c d e f : Bool) → entryAt op (setting a b c d e f) ≡ entryOf (decided op a b c d e f)
-entry-of op a b c d e f =
-    let s = setting a b c d e f in
-    let p : bit s 0 ≡ a = low a _ in
-    let q : bit s 1 ≡ b = next a _ 0 ∙ low b _ in
-    let r : bit s 2 ≡ c = next a _ 1 ∙ next b _ 0 ∙ low c _ in
-    let t : bit s 3 ≡ d = next a _ 2 ∙ next b _ 1 ∙ next c _ 0 ∙ low d _ in
-    let u : bit s 4 ≡ e = next a _ 3 ∙ next b _ 2 ∙ next c _ 1 ∙ next d _ 0 ∙ low e _ in
-    let v : bit s 5 ≡ f = next a _ 4 ∙ next b _ 3 ∙ next c _ 2 ∙ next d _ 1 ∙ next e _ 0 ∙ last f in
+entry-of : (op : Operation) (f0 f1 f2 f3 f4 f5 : Bool) → entryAt op (setting f0 f1 f2 f3 f4 f5) ≡ entryOf (decided op f0 f1 f2 f3 f4 f5)
+entry-of op f0 f1 f2 f3 f4 f5 =
+    let s = setting f0 f1 f2 f3 f4 f5 in
+    let p : bit s 0 ≡ f0 = low f0 _ in
+    let q : bit s 1 ≡ f1 = next f0 _ 0 ∙ low f1 _ in
+    let r : bit s 2 ≡ f2 = next f0 _ 1 ∙ next f1 _ 0 ∙ low f2 _ in
+    let t : bit s 3 ≡ f3 = next f0 _ 2 ∙ next f1 _ 1 ∙ next f2 _ 0 ∙ low f3 _ in
+    let u : bit s 4 ≡ f4 = next f0 _ 3 ∙ next f1 _ 2 ∙ next f2 _ 1 ∙ next f3 _ 0 ∙ low f4 _ in
+    let v : bit s 5 ≡ f5 = next f0 _ 4 ∙ next f1 _ 3 ∙ next f2 _ 2 ∙ next f3 _ 1 ∙ next f4 _ 0 ∙ last f5 in
     λ i. entryOf (decided op (p i) (q i) (r i) (t i) (u i) (v i))
-
--- ---- from the one fact to each entry
-
-module _ (op : Operation) (rows : List (List ℕ)) (all : filled op rows ≡ true) (s : ℕ) (h : s < settings) where
-  each : (eqb (entryIn rows s) (entryAt op s) && eqb (entryIn rows s) (entryIn rows (s % 2 ^ factsOf op))) ≡ true
-  unfolding filled
-  each = all-at settings (λ t. eqb (entryIn rows t) (entryAt op t) && eqb (entryIn rows t) (entryIn rows (t % 2 ^ factsOf op))) all s h
-
-  pub found : entryIn rows s ≡ entryAt op s
-  found = eqb-true _ _ (and-l _ _ each)
-
-  -- facts past the operation's own make no difference
-  pub unused : entryIn rows s ≡ entryIn rows (s % 2 ^ factsOf op)
-  unused = eqb-true _ _ (and-r (eqb (entryIn rows s) (entryAt op s)) _ each)
 
 -- ---- what an entry says
 
--- its digits of weight 16 and 32, past a verdict below 16
-digits : (v : ℕ) (f s : Bool) → v < 16 → (v + 16 * one f + 32 * one s) / 16 ≡ one f + 2 * one s
-digits v true true h = omega arith
-digits v true false h = omega arith
-digits v false true h = omega arith
-digits v false false h = omega arith
+-- past a verdict below 16 come the two flows
+flows : (v : ℕ) (f s : Bool) → v < 16 → (v + 16 * one f + 32 * one s) / 16 ≡ one f + 2 * one s
+flows v true true h = omega arith
+flows v true false h = omega arith
+flows v false true h = omega arith
+flows v false false h = omega arith
 
 first-flow : (f s : Bool) → eqb ((one f + 2 * one s) % 2) 1 ≡ f
 first-flow true true = refl
@@ -83,8 +69,9 @@ second-flow false true = refl
 second-flow false false = refl
 
 told-apart : (d : Decision) → d .verdict < 16 → decisionOf (entryOf d) ≡ d
+unfolding bit
 told-apart d h =
-    let q = digits (d .verdict) (d .first) (d .second) h in
+    let q = flows (d .verdict) (d .first) (d .second) h in
     let v : entryOf d % 16 ≡ d .verdict = omega arith in
     let f : eqb (entryOf d / 16 % 2) 1 ≡ d .first = rw q (first-flow (d .first) (d .second)) in
     let t : entryOf d / 32 ≡ entryOf d / 16 / 2 = omega arith in
@@ -96,17 +83,45 @@ unfolding unless
 low-verdict true p q = q
 low-verdict false p q = p
 
-verdicts : (op : Operation) (a b c d e f : Bool) → ruled op a b c d e f .verdict < 16
+verdicts : (op : Operation) (f0 f1 f2 f3 f4 f5 : Bool) → ruled op f0 f1 f2 f3 f4 f5 .verdict < 16
 unfolding ruled readDecision writeDecision moveDecision deleteDecision callDecision invokeDecision relayDecision
-verdicts Read a b c d e f = low-verdict _ (omega arith) (low-verdict _ (omega arith) (low-verdict _ (omega arith) (omega arith)))
-verdicts Write a b c d e f = low-verdict _ (omega arith) (low-verdict _ (omega arith) (omega arith))
-verdicts Move a b c d e f = low-verdict _ (omega arith) (low-verdict _ (omega arith) (low-verdict _ (omega arith) (omega arith)))
-verdicts Delete a b c d e f = low-verdict _ (omega arith) (omega arith)
-verdicts Call a b c d e f = low-verdict _ (omega arith) (omega arith)
-verdicts Invoke a b c d e f = low-verdict _ (omega arith) (omega arith)
-verdicts Pass a b c d e f = low-verdict _ (omega arith) (omega arith)
-verdicts Post a b c d e f = low-verdict _ (omega arith) (omega arith)
+verdicts Read f0 f1 f2 f3 f4 f5 = low-verdict _ (omega arith) (low-verdict _ (omega arith) (low-verdict _ (omega arith) (omega arith)))
+verdicts Write f0 f1 f2 f3 f4 f5 = low-verdict _ (omega arith) (low-verdict _ (omega arith) (omega arith))
+verdicts Move f0 f1 f2 f3 f4 f5 = low-verdict _ (omega arith) (low-verdict _ (omega arith) (low-verdict _ (omega arith) (omega arith)))
+verdicts Delete f0 f1 f2 f3 f4 f5 = low-verdict _ (omega arith) (omega arith)
+verdicts Call f0 f1 f2 f3 f4 f5 = low-verdict _ (omega arith) (omega arith)
+verdicts Invoke f0 f1 f2 f3 f4 f5 = low-verdict _ (omega arith) (omega arith)
+verdicts Pass f0 f1 f2 f3 f4 f5 = low-verdict _ (omega arith) (omega arith)
+verdicts Post f0 f1 f2 f3 f4 f5 = low-verdict _ (omega arith) (omega arith)
 
-pub says : (op : Operation) (a b c d e f : Bool) → decisionOf (entryOf (decided op a b c d e f)) ≡ decided op a b c d e f
+says : (op : Operation) (f0 f1 f2 f3 f4 f5 : Bool) → decisionOf (entryOf (decided op f0 f1 f2 f3 f4 f5)) ≡ decided op f0 f1 f2 f3 f4 f5
 unfolding settled
-says op a b c d e f = told-apart _ (verdicts op a b c d e f)
+says op f0 f1 f2 f3 f4 f5 = told-apart _ (verdicts op f0 f1 f2 f3 f4 f5)
+
+-- ---- from the fact about the table to each entry
+
+module _ (op : Operation) (rows : List (List ℕ)) (all : filled op rows ≡ true) where
+  each : (s : ℕ) → s < settings → (eqb (entryIn rows s) (entryAt op s) && eqb (entryIn rows s) (entryIn rows (s % 2 ^ factsOf op))) ≡ true
+  unfolding filled
+  each s h = all-at settings (λ t. eqb (entryIn rows t) (entryAt op t) && eqb (entryIn rows t) (entryIn rows (t % 2 ^ factsOf op))) all s h
+
+  -- the law of the lookup: what stands for a setting says the plain decision on its facts
+  pub found : (f0 f1 f2 f3 f4 f5 : Bool) → setting f0 f1 f2 f3 f4 f5 < settings → decisionOf (entryIn rows (setting f0 f1 f2 f3 f4 f5)) ≡ decided op f0 f1 f2 f3 f4 f5
+  found f0 f1 f2 f3 f4 f5 h =
+      ap decisionOf (eqb-true _ _ (and-l _ _ (each _ h)) ∙ entry-of op f0 f1 f2 f3 f4 f5) ∙ says op f0 f1 f2 f3 f4 f5
+
+  -- unused facts make no difference
+  pub unused : (s : ℕ) → s < settings → entryIn rows s ≡ entryIn rows (s % 2 ^ factsOf op)
+  unused s h = eqb-true _ _ (and-r (eqb (entryIn rows s) (entryAt op s)) _ (each s h))
+
+-- each fact that an operation has makes a difference somewhere: some entry is not that of its setting without the fact
+pub used : (op : Operation) → allB (factsOf op) (λ i. anyB settings (λ s. not (eqb (entryAt op s) (entryAt op (s % 2 ^ i + 2 ^ suc i * (s / 2 ^ suc i)))))) ≡ true
+unfolding allB anyB bit unless settled ruled factsOf readDecision writeDecision moveDecision deleteDecision callDecision invokeDecision relayDecision
+used Read = refl
+used Write = refl
+used Move = refl
+used Delete = refl
+used Call = refl
+used Invoke = refl
+used Pass = refl
+used Post = refl

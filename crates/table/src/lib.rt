@@ -3,7 +3,7 @@ ghost use mathlib.Core.Path.{_≡_};
 ghost use mathlib.Core.Bool.{true};
 ghost use Prim.Native.Nat.{_<_};
 ghost use Rattle.bits.specs.All.{one};
-ghost use Rattle.table.specs.Table.{setting, settings, ruled, decided, entryOf, decisionOf, filled};
+ghost use Rattle.table.specs.Table.{setting, settings, ruled, decided, decisionOf, filled};
 use decisions::Decision;
 use decisions::settled;
 
@@ -19,17 +19,20 @@ pub enum Operation {
     Post,
 }
 
-// Who decides.
+// The engine that decides: the table, or the plain rules.
 pub enum Engine {
     Table,
     Rules,
 }
 
-// The table: 64 entries for each operation, one for each setting of six facts.
-// Each operation's facts stand above its entries, fact 0 first; L and R are the levels of document 01. In setting s, fact i is bit i of s, and its entry is in row s / 8, column s % 8: a row has the settings of facts 0, 1 and 2, and the rows go by facts 3, 4 and 5. Facts that an operation has not make no difference.
-// An entry is the verdict, with 16 added where the event's first flow is recorded, and 32 where its second is. docs/DECISION-TABLE.md has all in print.
+// In the place of a fact that an operation does not have.
+pub const UNUSED: bool = false;
 
-// L(e) ≤ L(d), R(e) ≤ L(d), L(e) ≤ L(o), R(e) ≤ L(o), d marked, e marked. Flows: o to e, d to e.
+// The table: 512 numbers, 64 for each operation, one for each setting of six facts.
+// Above an operation's numbers stand its facts, fact 0 first, and its flows; L and R are the levels of document 01. In the setting s, fact i is bit i of s, and the entry is in row s / 8, column s % 8: a row goes through facts 0, 1 and 2, and the rows through facts 3, 4 and 5. Unused facts make no difference.
+// An entry is the verdict, with 16 added where the first flow is recorded and 32 where the second is. docs/DECISION-TABLE.md has it in print.
+
+// Read: L(e) ≤ L(d), R(e) ≤ L(d), L(e) ≤ L(o), R(e) ≤ L(o), d marked, e marked. Flows: o to e, d to e.
 const READ: [[u8; 8]; 8] = [
     [10, 11, 11, 11, 10, 16, 0, 16],
     [10, 0, 0, 0, 10, 16, 0, 16],
@@ -41,7 +44,7 @@ const READ: [[u8; 8]; 8] = [
     [10, 48, 48, 48, 10, 48, 48, 48],
 ];
 
-// L(o) ≤ L(e), d marked. Flows: e to o, e to d.
+// Write: L(o) ≤ L(e), d marked. Flows: e to o, e to d.
 const WRITE: [[u8; 8]; 8] = [
     [11, 16, 49, 48, 11, 16, 49, 48],
     [11, 16, 49, 48, 11, 16, 49, 48],
@@ -53,7 +56,7 @@ const WRITE: [[u8; 8]; 8] = [
     [11, 16, 49, 48, 11, 16, 49, 48],
 ];
 
-// L(o) ≤ L(e), L(o) ≤ L(to), d marked. Flows: e to o, e to d.
+// Move: L(o) ≤ L(e), L(o) ≤ L(to), d marked. Flows: e to o, e to d.
 const MOVE: [[u8; 8]; 8] = [
     [11, 11, 11, 0, 11, 11, 49, 48],
     [11, 11, 11, 0, 11, 11, 49, 48],
@@ -65,19 +68,19 @@ const MOVE: [[u8; 8]; 8] = [
     [11, 11, 11, 0, 11, 11, 49, 48],
 ];
 
-// L(o) ≤ L(e), d marked. Flows: none, since the object is gone; e to d.
+// Delete: L(o) ≤ L(e), d marked. One flow: e to d.
 const DELETE: [[u8; 8]; 8] = [
-    [11, 0, 11, 32, 11, 0, 11, 32],
-    [11, 0, 11, 32, 11, 0, 11, 32],
-    [11, 0, 11, 32, 11, 0, 11, 32],
-    [11, 0, 11, 32, 11, 0, 11, 32],
-    [11, 0, 11, 32, 11, 0, 11, 32],
-    [11, 0, 11, 32, 11, 0, 11, 32],
-    [11, 0, 11, 32, 11, 0, 11, 32],
-    [11, 0, 11, 32, 11, 0, 11, 32],
+    [11, 0, 11, 16, 11, 0, 11, 16],
+    [11, 0, 11, 16, 11, 0, 11, 16],
+    [11, 0, 11, 16, 11, 0, 11, 16],
+    [11, 0, 11, 16, 11, 0, 11, 16],
+    [11, 0, 11, 16, 11, 0, 11, 16],
+    [11, 0, 11, 16, 11, 0, 11, 16],
+    [11, 0, 11, 16, 11, 0, 11, 16],
+    [11, 0, 11, 16, 11, 0, 11, 16],
 ];
 
-// a calls b. L(a) ≤ L(b), R(a) ≤ L(b), a marked, b marked. Flows: b to a, a to b.
+// Call, of b by a: L(a) ≤ L(b), R(a) ≤ L(b), a marked, b marked. Flows: b to a, a to b.
 const CALL: [[u8; 8]; 8] = [
     [10, 16, 0, 16, 10, 16, 16, 16],
     [10, 48, 0, 48, 10, 48, 48, 48],
@@ -89,7 +92,7 @@ const CALL: [[u8; 8]; 8] = [
     [10, 48, 0, 48, 10, 48, 48, 48],
 ];
 
-// a invokes b. L(b) ≤ L(a), a marked. Flows: a to b, b to a.
+// Invoke, of b by a: L(b) ≤ L(a), a marked. Flows: a to b, b to a.
 const INVOKE: [[u8; 8]; 8] = [
     [11, 16, 11, 48, 11, 16, 11, 48],
     [11, 16, 11, 48, 11, 16, 11, 48],
@@ -101,7 +104,7 @@ const INVOKE: [[u8; 8]; 8] = [
     [11, 16, 11, 48, 11, 16, 11, 48],
 ];
 
-// z passes x on to y. L(z) ≤ L(x), R(z) ≤ L(x), L(z) ≤ L(dx), R(z) ≤ L(dx), z marked, with dx the driver of x. Flow: x to y.
+// Pass, of x by z to y, where dx drives x: L(z) ≤ L(x), R(z) ≤ L(x), L(z) ≤ L(dx), R(z) ≤ L(dx), z marked. One flow: x to y.
 const PASS: [[u8; 8]; 8] = [
     [16, 16, 11, 16, 16, 16, 11, 16],
     [11, 11, 11, 11, 16, 16, 11, 16],
@@ -113,7 +116,7 @@ const PASS: [[u8; 8]; 8] = [
     [16, 16, 16, 16, 16, 16, 16, 16],
 ];
 
-// x posts by z to y. As for a pass, with y for z and z for x. Flow: x to y.
+// Post, from x by z to y, where dz drives z: L(y) ≤ L(z), R(y) ≤ L(z), L(y) ≤ L(dz), R(y) ≤ L(dz), y marked. One flow: x to y.
 const POST: [[u8; 8]; 8] = [
     [16, 16, 11, 16, 16, 16, 11, 16],
     [11, 11, 11, 11, 16, 16, 11, 16],
@@ -124,10 +127,8 @@ const POST: [[u8; 8]; 8] = [
     [16, 16, 16, 16, 16, 16, 16, 16],
     [16, 16, 16, 16, 16, 16, 16, 16],
 ];
-// In the place of a fact that an operation does not have.
-pub const UNUSED: bool = false;
 
-// An operation's entries. The contract is the fact about the whole table, computed over all entries.
+// An operation's part of the table. That it is filled, for every operation, is the one fact about the table.
 fn rows_of(operation: Operation) -> [[u8; 8]; 8]
     ensures { λ r. ⌜ filled operation r ≡ true ⌝ }
 {
@@ -149,20 +150,12 @@ fn digit(fact: bool) -> usize
     if fact { 1 } else { 0 }
 }
 
-// The number of a setting; the sum has six digits, so it is below 64.
-fn setting(a: bool, b: bool, c: bool, d: bool, e: bool, f: bool) -> usize
-    ensures { λ r. ⌜ (r ≡ setting «a» «b» «c» «d» «e» «f») × (r < settings) ⌝ }
+// The number of a setting: six binary digits, so it is below 64.
+fn setting(f0: bool, f1: bool, f2: bool, f3: bool, f4: bool, f5: bool) -> usize
+    ensures { λ r. ⌜ (r ≡ setting «f0» «f1» «f2» «f3» «f4» «f5») × (r < settings) ⌝ }
 {
-    digit(a) + 2 * (digit(b) + 2 * (digit(c) + 2 * (digit(d) + 2 * (digit(e) + 2 * digit(f)))))
-}
-
-// An operation's entry on its facts.
-fn entry(operation: Operation, a: bool, b: bool, c: bool, d: bool, e: bool, f: bool) -> u8
-    ensures { λ r. ⌜ r ≡ entryOf (decided operation «a» «b» «c» «d» «e» «f») ⌝ }
-{
-    let rows = rows_of(operation);
-    let s = setting(a, b, c, d, e, f);
-    rows[s / 8][s % 8]
+    digit(f0)
+        + 2 * (digit(f1) + 2 * (digit(f2) + 2 * (digit(f3) + 2 * (digit(f4) + 2 * digit(f5)))))
 }
 
 // What an entry says.
@@ -176,37 +169,75 @@ fn meaning(entry: u8) -> Decision
     }
 }
 
+fn by_table(
+    operation: Operation,
+    f0: bool,
+    f1: bool,
+    f2: bool,
+    f3: bool,
+    f4: bool,
+    f5: bool,
+) -> Decision
+    ensures { λ r. ⌜ r ≡ decided operation «f0» «f1» «f2» «f3» «f4» «f5» ⌝ }
+{
+    let rows = rows_of(operation);
+    let s = setting(f0, f1, f2, f3, f4, f5);
+    meaning(rows[s / 8][s % 8])
+}
+
 // The plain rule of an operation.
-fn rule(operation: Operation, a: bool, b: bool, c: bool, d: bool, e: bool, f: bool) -> Decision
-    ensures { λ r. ⌜ r ≡ ruled operation «a» «b» «c» «d» «e» «f» ⌝ }
+fn rule(
+    operation: Operation,
+    f0: bool,
+    f1: bool,
+    f2: bool,
+    f3: bool,
+    f4: bool,
+    f5: bool,
+) -> Decision
+    ensures { λ r. ⌜ r ≡ ruled operation «f0» «f1» «f2» «f3» «f4» «f5» ⌝ }
 {
     match operation {
-        Operation::Read => decisions::read(a, b, c, d, e, f),
-        Operation::Write => decisions::write(a, b),
-        Operation::Move => decisions::move_object(a, b, c),
-        Operation::Delete => decisions::delete(a, b),
-        Operation::Call => decisions::call_task(a, b, c, d),
-        Operation::Invoke => decisions::invoke(a, b),
-        Operation::Pass => decisions::relay(a, b, c, d, e),
-        Operation::Post => decisions::relay(a, b, c, d, e),
+        Operation::Read => decisions::read(f0, f1, f2, f3, f4, f5),
+        Operation::Write => decisions::write(f0, f1),
+        Operation::Move => decisions::move_object(f0, f1, f2),
+        Operation::Delete => decisions::delete(f0, f1),
+        Operation::Call => decisions::call_task(f0, f1, f2, f3),
+        Operation::Invoke => decisions::invoke(f0, f1),
+        Operation::Pass => decisions::relay(f0, f1, f2, f3, f4),
+        Operation::Post => decisions::relay(f0, f1, f2, f3, f4),
     }
 }
 
-// The decision of an operation on its facts. The contract does not know the engine: both decide alike.
+fn by_rules(
+    operation: Operation,
+    f0: bool,
+    f1: bool,
+    f2: bool,
+    f3: bool,
+    f4: bool,
+    f5: bool,
+) -> Decision
+    ensures { λ r. ⌜ r ≡ decided operation «f0» «f1» «f2» «f3» «f4» «f5» ⌝ }
+{
+    settled(rule(operation, f0, f1, f2, f3, f4, f5))
+}
+
+// The decision of an operation on its facts. No engine stands in the contract: both decide alike.
 pub fn decide(
     engine: Engine,
     operation: Operation,
-    a: bool,
-    b: bool,
-    c: bool,
-    d: bool,
-    e: bool,
-    f: bool,
+    f0: bool,
+    f1: bool,
+    f2: bool,
+    f3: bool,
+    f4: bool,
+    f5: bool,
 ) -> Decision
-    ensures { λ r. ⌜ r ≡ decided operation «a» «b» «c» «d» «e» «f» ⌝ }
+    ensures { λ r. ⌜ r ≡ decided operation «f0» «f1» «f2» «f3» «f4» «f5» ⌝ }
 {
     match engine {
-        Engine::Table => meaning(entry(operation, a, b, c, d, e, f)),
-        Engine::Rules => settled(rule(operation, a, b, c, d, e, f)),
+        Engine::Table => by_table(operation, f0, f1, f2, f3, f4, f5),
+        Engine::Rules => by_rules(operation, f0, f1, f2, f3, f4, f5),
     }
 }

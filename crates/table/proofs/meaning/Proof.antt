@@ -1,8 +1,10 @@
 use mathlib.Core.Path.{refl}
+use Rattle.bits.specs.Bit.{bit}
 use Rattle.table.proofs.meaning.Statement.{statement}
 use Rattle.table.proofs.meaning.Tie as tie
 
 returns : tie.Need-returns
+unfolding bit
 returns c = refl
 
 pub meaning-spec : {M : Type 1} → statement M

@@ -1,12 +1,12 @@
 use mathlib.Core.Path.{refl}
 use borrow.Author.Needs.{needs}
 use Rattle.model.specs.State.{marked}
-use Rattle.events.specs.Judged.{deleteDecided}
+use Rattle.events.specs.Judged.{deleteRuled}
 use Rattle.events.proofs.judge.delete_decided.Statement.{statement}
 use Rattle.events.proofs.judge.delete_decided.Tie as tie
 
 returns : tie.Need-returns
-unfolding marked deleteDecided
+unfolding marked deleteRuled
 returns c = λ ws. simp (c .decide .ensures, c .before .marked .ensures, c .before .before .below .ensures) refl
 
 pub delete-decided-spec : {M : Type 1} → statement M

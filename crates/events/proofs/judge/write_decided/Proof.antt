@@ -1,12 +1,12 @@
 use mathlib.Core.Path.{refl}
 use borrow.Author.Needs.{needs}
 use Rattle.model.specs.State.{marked}
-use Rattle.events.specs.Judged.{writeDecided}
+use Rattle.events.specs.Judged.{writeRuled}
 use Rattle.events.proofs.judge.write_decided.Statement.{statement}
 use Rattle.events.proofs.judge.write_decided.Tie as tie
 
 returns : tie.Need-returns
-unfolding marked writeDecided
+unfolding marked writeRuled
 returns c = λ ws. simp (c .decide .ensures, c .before .marked .ensures, c .before .before .below .ensures) refl
 
 pub write-decided-spec : {M : Type 1} → statement M

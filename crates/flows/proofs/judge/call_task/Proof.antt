@@ -4,13 +4,13 @@ use Rattle.model.specs.Verdicts.{row-number}
 use Rattle.model.specs.Events.{unless}
 use Rattle.model.specs.State.{task, marked}
 use Rattle.decisions.specs.DecisionLaws.{judged-is}
-use Rattle.flows.specs.Judged.{callDecided}
+use Rattle.flows.specs.Judged.{callRuled}
 use Rattle.flows.specs.FlowLaws.{call-verdict}
 use Rattle.flows.proofs.judge.call_task.Statement.{statement}
 use Rattle.flows.proofs.judge.call_task.Tie as tie
 
 returns : tie.Need-returns
-unfolding task marked callDecided
+unfolding task marked callRuled
 returns c =
     let d = c .before .before .before in
     λ ws. judged-is _ _

@@ -4,13 +4,13 @@ use Rattle.model.specs.Verdicts.{row-number}
 use Rattle.model.specs.Events.{unless}
 use Rattle.model.specs.State.{task, marked}
 use Rattle.decisions.specs.DecisionLaws.{judged-is}
-use Rattle.flows.specs.Judged.{invokeDecided}
+use Rattle.flows.specs.Judged.{invokeRuled}
 use Rattle.flows.specs.FlowLaws.{invoke-verdict}
 use Rattle.flows.proofs.judge.invoke.Statement.{statement}
 use Rattle.flows.proofs.judge.invoke.Tie as tie
 
 returns : tie.Need-returns
-unfolding task marked invokeDecided
+unfolding task marked invokeRuled
 returns c =
     let d = c .before .before .before in
     λ ws. judged-is _ _ (simp (d .decide .ensures, d .before .marked .ensures, d .before .before .below .ensures) refl)

@@ -1,12 +1,12 @@
 use mathlib.Core.Path.{refl}
 use borrow.Author.Needs.{needs}
 use Rattle.model.specs.State.{marked}
-use Rattle.flows.specs.Judged.{relayDecided}
+use Rattle.flows.specs.Judged.{relayRuled}
 use Rattle.flows.proofs.judge.relay.Statement.{statement}
 use Rattle.flows.proofs.judge.relay.Tie as tie
 
 returns : tie.Need-returns
-unfolding marked relayDecided
+unfolding marked relayRuled
 returns c =
     λ ws. simp (
       c .decide .ensures,
