@@ -1,4 +1,1 @@
-mod Rows
-mod Loads
-mod Entering
 mod Thin

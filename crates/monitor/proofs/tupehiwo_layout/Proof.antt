@@ -1,15 +1,33 @@
 use mathlib.Core.Path.{_≡_, sym, _∙_}
 use mathlib.Core.Logic.{inl, inr}
+use mathlib.Core.List.{List}
+use Prim.Native.Nat.{ℕ}
 use native.Mathlib.Omega.{arith}
+use lib.ListN.{length}
 use borrow.Author.Needs.{needs}
 use Rattle.layout.specs.Reading.{settled}
 use Rattle.layout.specs.Answers.{textAnswer}
 use Rattle.layout.specs.declared.Text.the-variants.{Fits, Broken, Deep}
 use Rattle.layout.specs.Proved.{settles-all}
+use Rattle.model.specs.Verdicts.{granted, row-form, row-deep}
+use Rattle.model.specs.Load.{checked, layoutChecked}
 use Rattle.loading.specs.SettledLaws.{told-fits, told-broken, told-deep, place-small}
-use Rattle.monitor.proofs.Loads.{checked-fits, checked-broken, checked-deep}
 use Rattle.monitor.proofs.tupehiwo_layout.Statement.{statement}
 use Rattle.monitor.proofs.tupehiwo_layout.Tie as tie
+
+-- what a text alone settles
+module _ (t : List ℕ) where
+  checked-fits : textAnswer (settled t) ≡ Fits → record { verdict = granted; offset = length t } ≡ layoutChecked t
+  unfolding layoutChecked checked
+  checked-fits e = rw (told-fits (settled t) e .1)
+
+  checked-broken : (place : ℕ) → textAnswer (settled t) ≡ Broken place → record { verdict = row-form; offset = place } ≡ layoutChecked t
+  unfolding layoutChecked checked
+  checked-broken place e = rw (told-broken (settled t) place e)
+
+  checked-deep : (place : ℕ) → textAnswer (settled t) ≡ Deep place → record { verdict = row-deep; offset = place } ≡ layoutChecked t
+  unfolding layoutChecked checked
+  checked-deep place e = rw (told-deep (settled t) place e)
 
 -- what the reader answered is what the text settles
 fits : (c : tie.After-enum-told) → textAnswer (settled (c .before .before .before .before .args .text .now)) ≡ Fits

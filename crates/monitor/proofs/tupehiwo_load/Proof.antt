@@ -42,7 +42,7 @@ use Rattle.model.specs.declared.Tally.{Tally}
 use Rattle.tallies.specs.declared.Entry.{Entry}
 use Rattle.tallies.specs.Entries.{enteredAs}
 use Rattle.tallies.specs.EntryLaws.{loaded-is}
-use Rattle.monitor.specs.Entered.{LoadEntry}
+use Rattle.calls.specs.Entered.{LoadEntry}
 use Rattle.levels.proofs.Order as O
 use Rattle.levels.proofs.Order.Laws as O′
 use Rattle.model.proofs.Tally as T

@@ -40,14 +40,14 @@ use Rattle.model.specs.declared.Tally.{Tally}
 use Rattle.tallies.specs.declared.Entry.{Entry}
 use Rattle.tallies.specs.Entries.{enteredAs}
 use Rattle.tallies.specs.EntryLaws.{performed-is}
-use Rattle.monitor.specs.Entered.{ToldEntry}
-use Rattle.monitor.specs.Request.{callOf}
-use Rattle.monitor.specs.declared.Request.{Request}
+use Rattle.calls.specs.Entered.{ToldEntry}
+use Rattle.calls.specs.Request.{callOf}
+use Rattle.calls.specs.declared.Request.{Request}
 use Rattle.levels.proofs.Order as O
 use Rattle.levels.proofs.Order.Laws as O′
 use Rattle.model.proofs.Tally as T
-use Rattle.monitor.proofs.Request as E
-use Rattle.monitor.proofs.Request.Laws as E′
+use Rattle.calls.proofs.Request as E
+use Rattle.calls.proofs.Request.Laws as E′
 use Rattle.tallies.proofs.enter.Symbol as enter-def
 use Rattle.tallies.proofs.enter.Symbol.{name as #tallies·enter}
 use Rattle.tallies.proofs.enter.Met as enter-thm

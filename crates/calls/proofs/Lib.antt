@@ -1,0 +1,3 @@
+mod Rows
+mod Loads
+mod Entering

@@ -1,0 +1,44 @@
+// Calls and loads for C and Rust to link beside the monitor: the list of tallies is lent as plain numbers, three to a record.
+ghost use mathlib.Core.Path.{_≡_};
+ghost use Rattle.model.specs.State.{memory};
+ghost use Rattle.model.specs.Events.{left};
+ghost use Rattle.model.specs.Tallies.{tallied, performed, loaded};
+ghost use Rattle.model.specs.Told.{no-word, told};
+ghost use Rattle.tallies.specs.Counts.{recordsIn, leftOver};
+ghost use Rattle.calls.specs.Request.{callOf};
+use calls::Request;
+use levels::Order;
+use model::Answer;
+
+// A whole call.
+#[no_mangle]
+pub extern "C" fn tupehiwo_plain_perform(
+    bytes: &mut [u8],
+    words: &mut [u64],
+    counts: &mut [u32],
+    order: Order,
+    request: Request,
+) -> Answer
+    ensures { λ r. ⌜ (tallied (left (r .verdict) (r .rounds) (now (bytes .exit)) (now (words .exit))) (recordsIn (now (counts .exit))) ≡ performed order (memory (now (bytes .entry)) (now (words .entry))) (recordsIn (now (counts .entry))) (callOf request))
+        × (r .told ≡ told (callOf request) (r .verdict))
+        × (leftOver (now (counts .exit)) ≡ leftOver (now (counts .entry))) ⌝ }
+{
+    let call = calls::call_of(request);
+    calls::perform(bytes, words, counts, order, call)
+}
+
+// A whole load.
+#[no_mangle]
+pub extern "C" fn tupehiwo_plain_load(
+    bytes: &mut [u8],
+    words: &mut [u64],
+    counts: &mut [u32],
+    order: Order,
+    text: &[u8],
+) -> Answer
+    ensures { λ r. ⌜ (tallied (left (r .verdict) (r .rounds) (now (bytes .exit)) (now (words .exit))) (recordsIn (now (counts .exit))) ≡ loaded order (memory (now (bytes .entry)) (now (words .entry))) (recordsIn (now (counts .entry))) (now (text .entry)))
+        × (r .told ≡ no-word)
+        × (leftOver (now (counts .exit)) ≡ leftOver (now (counts .entry))) ⌝ }
+{
+    calls::load_counts(bytes, words, counts, order, text)
+}
