@@ -1,2 +1,3 @@
 pub mod Request
 pub mod Entered
+pub mod Engines

@@ -1,4 +1,4 @@
-// Every call and load over a lent memory, judged, carried out and entered in its list of tallies.
+// Every call and load over a lent memory: judged, carried out, told and entered in its list of tallies, whichever engine decides.
 ghost use mathlib.Core.Path.{_≡_};
 ghost use mathlib.Core.Bool.{true, _&&_};
 ghost use lib.Dec.{eqb};
@@ -23,12 +23,14 @@ ghost use Rattle.calls.specs.Entered.{CallEntry, ToldEntry, LoadEntry, w
 use creation::create;
 use creation::create_root;
 use creation::execute;
+use events::delete;
 use events::move_object;
 use layout::Text;
 use levels::Order;
 use model::Answer;
 use model::Call;
 use model::NO_WORD;
+use table::Engine;
 use tallies::Entry;
 
 // A call as a C caller writes it: its code, and its numbers in the call's order.
@@ -140,23 +142,23 @@ fn on_zero(verdict: u8) -> Entry
 }
 
 // A call that has passed rows 2 and 3; a start tests for itself.
-fn event(bytes: &mut [u8], words: &mut [u64], order: Order, call: Call) -> Answer
+fn event(bytes: &mut [u8], words: &mut [u64], order: Order, engine: Engine, call: Call) -> Answer
     requires { ⌜ Ready order (now bytes) (now words) ⌝ }
     ensures { λ r. ⌜ left (r .verdict) (r .rounds) (now (bytes .exit)) (now (words .exit)) ≡ model.perform order (memory (now (bytes .entry)) (now (words .entry))) call ⌝ }
 {
     match call {
         Call::Start => plain(start(bytes, words, order)),
-        Call::Read(e, d, o) => plain(events::read(bytes, words, order, e, d, o)),
-        Call::Write(e, d, o) => plain(events::write(bytes, words, order, e, d, o)),
+        Call::Read(e, d, o) => plain(events::read(bytes, words, order, engine, e, d, o)),
+        Call::Write(e, d, o) => plain(events::write(bytes, words, order, engine, e, d, o)),
         Call::Execute(c, i, n, l, r) => plain(execute(bytes, words, order, c, i, n, l, r)),
         Call::Create(c, d, n, k, l) => plain(create(bytes, words, order, c, d, n, k, l)),
         Call::CreateRoot(c, d, n, l) => plain(create_root(bytes, words, order, c, d, n, l)),
-        Call::Move(e, d, o, f, t) => plain(move_object(bytes, words, order, e, d, o, f, t)),
-        Call::Delete(e, d, o, k) => plain(events::delete(bytes, words, order, e, d, o, k)),
-        Call::CallTask(a, b) => plain(flows::call_task(bytes, words, order, a, b)),
-        Call::Invoke(a, b) => plain(flows::invoke(bytes, words, order, a, b)),
-        Call::Pass(z, x, y) => plain(flows::pass(bytes, words, order, z, x, y)),
-        Call::Post(x, z, y) => plain(flows::post(bytes, words, order, x, z, y)),
+        Call::Move(e, d, o, f, t) => plain(move_object(bytes, words, order, engine, e, d, o, f, t)),
+        Call::Delete(e, d, o, k) => plain(delete(bytes, words, order, engine, e, d, o, k)),
+        Call::CallTask(a, b) => plain(flows::call_task(bytes, words, order, engine, a, b)),
+        Call::Invoke(a, b) => plain(flows::invoke(bytes, words, order, engine, a, b)),
+        Call::Pass(z, x, y) => plain(flows::pass(bytes, words, order, engine, z, x, y)),
+        Call::Post(x, z, y) => plain(flows::post(bytes, words, order, engine, x, z, y)),
         Call::Find(x, z, y) => plain(flows::find(bytes, words, order, x, z, y)),
         Call::Mark(e) => plain(marking::mark(bytes, words, order, e)),
         Call::Step(x) => plain(marking::step(bytes, words, order, x)),
@@ -169,7 +171,7 @@ fn event(bytes: &mut [u8], words: &mut [u64], order: Order, call: Call) -> Answe
 }
 
 // A call that is lent a list of the right length: done on bytes and words, to be entered afterwards.
-fn carry_out(bytes: &mut [u8], words: &mut [u64], order: Order, call: Call) -> Entry
+fn carry_out(bytes: &mut [u8], words: &mut [u64], order: Order, engine: Engine, call: Call) -> Entry
     ensures { λ r. ⌜ CallEntry (memory (now (bytes .entry)) (now (words .entry))) call (model.perform order (memory (now (bytes .entry)) (now (words .entry))) call) r (now (bytes .exit)) (now (words .exit)) ⌝ }
 {
     if let Call::Start = call {
@@ -182,7 +184,7 @@ fn carry_out(bytes: &mut [u8], words: &mut [u64], order: Order, call: Call) -> E
         return on_zero(model::ORDER);
     }
     let number = tallies::asker(bytes, call);
-    let answer = event(bytes, words, order, call);
+    let answer = event(bytes, words, order, engine, call);
     Entry {
         answer,
         number,
@@ -191,13 +193,20 @@ fn carry_out(bytes: &mut [u8], words: &mut [u64], order: Order, call: Call) -> E
 }
 
 // The same for a list of so many records: another length is refused with 2.
-fn judge(bytes: &mut [u8], words: &mut [u64], lent: usize, order: Order, call: Call) -> Entry
+fn judge(
+    bytes: &mut [u8],
+    words: &mut [u64],
+    lent: usize,
+    order: Order,
+    engine: Engine,
+    call: Call,
+) -> Entry
     ensures { λ r. ⌜ CallEntry (memory (now (bytes .entry)) (now (words .entry))) call (refusedUnless (eqb lent numbers) row-state (memory (now (bytes .entry)) (now (words .entry))) (model.perform order (memory (now (bytes .entry)) (now (words .entry))) call)) r (now (bytes .exit)) (now (words .exit)) ⌝ }
 {
     if lent != records::RECORDS {
         return on_zero(model::STATE);
     }
-    carry_out(bytes, words, order, call)
+    carry_out(bytes, words, order, engine, call)
 }
 
 // The entry with the word that the driver is told.
@@ -225,11 +234,12 @@ pub fn call_lent(
     words: &mut [u64],
     lent: usize,
     order: Order,
+    engine: Engine,
     call: Call,
 ) -> Entry
     ensures { λ r. ⌜ ToldEntry (memory (now (bytes .entry)) (now (words .entry))) call (refusedUnless (eqb lent numbers) row-state (memory (now (bytes .entry)) (now (words .entry))) (model.perform order (memory (now (bytes .entry)) (now (words .entry))) call)) r (now (bytes .exit)) (now (words .exit)) ⌝ }
 {
-    let entry = judge(bytes, words, lent, order, call);
+    let entry = judge(bytes, words, lent, order, engine, call);
     tell(call, entry)
 }
 
@@ -239,6 +249,7 @@ pub fn perform(
     words: &mut [u64],
     counts: &mut [u32],
     order: Order,
+    engine: Engine,
     call: Call,
 ) -> Answer
     ensures { λ r. ⌜ (tallied (left (r .verdict) (r .rounds) (now (bytes .exit)) (now (words .exit))) (recordsIn (now (counts .exit))) ≡ performed order (memory (now (bytes .entry)) (now (words .entry))) (recordsIn (now (counts .entry))) call)
@@ -246,17 +257,17 @@ pub fn perform(
         × (leftOver (now (counts .exit)) ≡ leftOver (now (counts .entry))) ⌝ }
 {
     let lent = tallies::records_in(counts);
-    let entry = call_lent(bytes, words, lent, order, call);
+    let entry = call_lent(bytes, words, lent, order, engine, call);
     tallies::enter_counts(counts, entry);
     entry.answer
 }
 
 // The calls of a layout's text on the state of a start, which is left again if one of them is refused.
-fn make(bytes: &mut [u8], words: &mut [u64], order: Order, text: &[u8]) -> u8
+fn make(bytes: &mut [u8], words: &mut [u64], order: Order, engine: Engine, text: &[u8]) -> u8
     requires { ⌜ Ready order (now bytes) (now words) ⌝ }
     ensures { λ r. ⌜ left r 0 (now (bytes .exit)) (now (words .exit)) ≡ whole order (inTurn order (callsIn (now (text .entry))) (memory (now (bytes .entry)) (now (words .entry)))) ⌝ }
 {
-    let verdict = loading::lay_out(bytes, words, order, text);
+    let verdict = loading::lay_out(bytes, words, order, engine, text);
     if verdict > model::SLIPPED {
         set_up(bytes, words, order);
     }
@@ -264,7 +275,7 @@ fn make(bytes: &mut [u8], words: &mut [u64], order: Order, text: &[u8]) -> u8
 }
 
 // A load is a start, and then the text: its form, its depth, and its calls.
-fn load(bytes: &mut [u8], words: &mut [u64], order: Order, text: &[u8]) -> u8
+fn load(bytes: &mut [u8], words: &mut [u64], order: Order, engine: Engine, text: &[u8]) -> u8
     ensures { λ r. ⌜ left r 0 (now (bytes .exit)) (now (words .exit)) ≡ loads.load order (memory (now (bytes .entry)) (now (words .entry))) (now (text .entry)) ⌝ }
 {
     let begun = start(bytes, words, order);
@@ -272,7 +283,7 @@ fn load(bytes: &mut [u8], words: &mut [u64], order: Order, text: &[u8]) -> u8
         return begun;
     }
     match layout::check(text) {
-        Text::Fits => make(bytes, words, order, text),
+        Text::Fits => make(bytes, words, order, engine, text),
         Text::Broken { at: _ } => model::FORM,
         Text::Deep { at: _ } => model::DEEP,
     }
@@ -284,6 +295,7 @@ pub fn load_lent(
     words: &mut [u64],
     lent: usize,
     order: Order,
+    engine: Engine,
     text: &[u8],
 ) -> Entry
     ensures { λ r. ⌜ LoadEntry (refusedUnless (eqb lent numbers) row-state (memory (now (bytes .entry)) (now (words .entry))) (loads.load order (memory (now (bytes .entry)) (now (words .entry))) (now (text .entry)))) r (now (bytes .exit)) (now (words .exit)) ⌝ }
@@ -291,7 +303,7 @@ pub fn load_lent(
     if lent != records::RECORDS {
         return on_zero(model::STATE);
     }
-    on_zero(load(bytes, words, order, text))
+    on_zero(load(bytes, words, order, engine, text))
 }
 
 // A whole load, as perform is a whole call: the list is lent as plain numbers.
@@ -300,6 +312,7 @@ pub fn load_counts(
     words: &mut [u64],
     counts: &mut [u32],
     order: Order,
+    engine: Engine,
     text: &[u8],
 ) -> Answer
     ensures { λ r. ⌜ (tallied (left (r .verdict) (r .rounds) (now (bytes .exit)) (now (words .exit))) (recordsIn (now (counts .exit))) ≡ loaded order (memory (now (bytes .entry)) (now (words .entry))) (recordsIn (now (counts .entry))) (now (text .entry)))
@@ -307,7 +320,7 @@ pub fn load_counts(
         × (leftOver (now (counts .exit)) ≡ leftOver (now (counts .entry))) ⌝ }
 {
     let lent = tallies::records_in(counts);
-    let entry = load_lent(bytes, words, lent, order, text);
+    let entry = load_lent(bytes, words, lent, order, engine, text);
     tallies::enter_counts(counts, entry);
     entry.answer
 }

@@ -1,4 +1,4 @@
-// Calls and loads for C and Rust to link beside the monitor: the list of tallies is lent as plain numbers, three to a record.
+// Calls and loads by the plain rules, for C and Rust to link beside the monitor: the list of tallies is lent as plain numbers, three to a record.
 ghost use mathlib.Core.Path.{_≡_};
 ghost use Rattle.model.specs.State.{memory};
 ghost use Rattle.model.specs.Events.{left};
@@ -9,6 +9,7 @@ ghost use Rattle.calls.specs.Request.{callOf};
 use calls::Request;
 use levels::Order;
 use model::Answer;
+use table::Engine;
 
 // A whole call.
 #[no_mangle]
@@ -24,7 +25,7 @@ pub extern "C" fn tupehiwo_plain_perform(
         × (leftOver (now (counts .exit)) ≡ leftOver (now (counts .entry))) ⌝ }
 {
     let call = calls::call_of(request);
-    calls::perform(bytes, words, counts, order, call)
+    calls::perform(bytes, words, counts, order, Engine::Rules, call)
 }
 
 // A whole load.
@@ -40,5 +41,5 @@ pub extern "C" fn tupehiwo_plain_load(
         × (r .told ≡ no-word)
         × (leftOver (now (counts .exit)) ≡ leftOver (now (counts .entry))) ⌝ }
 {
-    calls::load_counts(bytes, words, counts, order, text)
+    calls::load_counts(bytes, words, counts, order, Engine::Rules, text)
 }

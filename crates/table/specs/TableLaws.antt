@@ -5,7 +5,7 @@ use mathlib.Core.Bool.{Bool, true, false, not, _&&_}
 use mathlib.Core.List.{List}
 use Prim.Native.Nat.{ℕ, suc, _+_, _*_, _/_, _%_, _^_, _<_}
 use native.Mathlib.Omega.{arith}
-use lib.Dec.{eqb}
+use lib.Dec.{T, eqb}
 use borrow.Author.Tests.{eqb-true}
 use Rattle.bits.specs.All.{one, allB, anyB}
 use Rattle.bits.specs.AllLaws.{and-l, and-r, all-at}
@@ -98,7 +98,12 @@ says : (op : Operation) (f0 f1 f2 f3 f4 f5 : Bool) → decisionOf (entryOf (deci
 unfolding settled
 says op f0 f1 f2 f3 f4 f5 = told-apart _ (verdicts op f0 f1 f2 f3 f4 f5)
 
--- ---- from the fact about the table to each entry
+-- ---- the fact about the table, and from it to each entry
+
+-- a test that is computed: where it fails there is no `tt`
+pub tested : (b : Bool) → T b → b ≡ true
+tested true t = refl
+tested false t = absurd t
 
 module _ (op : Operation) (rows : List (List ℕ)) (all : filled op rows ≡ true) where
   each : (s : ℕ) → s < settings → (eqb (entryIn rows s) (entryAt op s) && eqb (entryIn rows s) (entryIn rows (s % 2 ^ factsOf op))) ≡ true
