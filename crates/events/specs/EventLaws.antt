@@ -27,7 +27,6 @@ use Rattle.decisions.specs.declared.Decision.{Decision}
 use Rattle.decisions.specs.Decisions.{apart, readDecision, writeDecision, moveDecision, deleteDecision}
 use Rattle.decisions.specs.Facts.{writes, bothWrite}
 use Rattle.decisions.specs.DecisionLaws.{Told, told-by, told-tests, turned-away, under, ends-done, apart-joins, task-small, object-small}
-use Rattle.table.specs.Table.{ruled}
 use Rattle.events.specs.Judged.{allWrite, mayMove, moveNamed, isEmpty, driven, lastRows, moveRows, deleteRows, readRuled, writeRuled, moveRuled, deleteRuled, readJudged, writeJudged, moveJudged, deleteJudged, readDoes, writeDoes, moveDoes, deleteDoes}
 
 -- a flow that one of two conditions records, of which at most one holds, is recorded where either holds
@@ -130,14 +129,14 @@ module _ (o : Order) (m : Memory) where
   module _ (e d x : ℕ) where
     pub read-verdict : verdictOf (read o m e d x)
         ≡ driven (m .bytes) (task m e && task m d && object m x) d x (apart (L x ⊑ L d) (readRuled o m e d x .verdict))
-    unfolding verdictOf firstFailing unless read readRuled ruled readDecision driven
+    unfolding verdictOf firstFailing unless read readRuled readDecision driven
     read-verdict =
         let honest = L e ⊑ L x || R e ⊑ L x in
         ap (driven (m .bytes) (task m e && task m d && object m x) d x)
         (apart-joins (L e ⊑ L d || R e ⊑ L d) (honest || marked m d) true (L x ⊑ L d) honest)
 
     pub read-told : Told m (read o m e d x) (readJudged o m e d x) (λ j. readDoes e d x (j .first) (j .second))
-    unfolding read readRuled ruled readDecision unless effects
+    unfolding read readRuled readDecision unless effects
     read-told =
         let to-driver = marked m e || L e ⊑ L d in
         told-by (readRuled o m e d x) refl (readDoes e d x) (λ t. rw (t .1 .1 .0, t .1 .1 .1 .0) (ends-done (L e ⊑ L x || R e ⊑ L x)))
@@ -145,24 +144,24 @@ module _ (o : Order) (m : Memory) where
 
     pub write-verdict : verdictOf (write o m e d x)
         ≡ driven (m .bytes) (task m e && task m d && object m x) d x (apart (L x ⊑ L d) (writeRuled o m e d x .verdict))
-    unfolding verdictOf firstFailing unless write writeRuled ruled writeDecision driven
+    unfolding verdictOf firstFailing unless write writeRuled writeDecision driven
     write-verdict =
         let honest = L x ⊑ L e in
         ap (driven (m .bytes) (task m e && task m d && object m x) d x)
         (apart-joins true (honest || marked m d) true (L x ⊑ L d) honest)
 
     pub write-told : Told m (write o m e d x) (writeJudged o m e d x) (λ j. writeDoes e d x (j .first) (j .second))
-    unfolding write writeRuled ruled writeDecision unless effects effect
+    unfolding write writeRuled writeDecision unless effects effect
     write-told = told-by (writeRuled o m e d x) refl (writeDoes e d x) (λ t. rw (t .1 .1 .0) (ends-done (L x ⊑ L e))) refl
 
   -- ---- move and delete
   pub move-told : (e d x f t : ℕ) → Told m (move o m e d x f t) (moveJudged o m e d x f t)
       (λ j. moveDoes e d x t (j .first) (j .second))
-  unfolding move moveRuled ruled moveDecision unless effects effect
+  unfolding move moveRuled moveDecision unless effects effect
   move-told e d x f t = told-by (moveRuled o m e d x t) refl (moveDoes e d x t) (λ p. rw (p .1 .1 .1 .1 .0, and-r (L x ⊑ L d) (L x ⊑ L t) (p .1 .1 .1 .1 .1 .0)) (ends-done (L x ⊑ L e))) refl
 
   pub delete-told : (e d x k : ℕ) → Told m (delete o m e d x k) (deleteJudged o m e d x k) (λ j. deleteDoes e d x (j .first) (j .second))
-  unfolding delete deleteRuled ruled deleteDecision unless effects effect
+  unfolding delete deleteRuled deleteDecision unless effects effect
   delete-told e d x k = told-by (deleteRuled o m e d x) refl (deleteDoes e d x) (λ t. rw (and-l (L x ⊑ L e) (L x ⊑ L d) (t .1 .1 .1 .1 .0))) refl
 
   -- an access is looked for in its table, past which there is none; and an object's container by its byte
@@ -173,7 +172,7 @@ module _ (o : Order) (m : Memory) where
 
     pub move-verdict : (e d x f t : ℕ) → verdictOf (move o m e d x f t)
         ≡ moveRows (m .bytes) (m .words) e d x f t (apart (L x ⊑ L d) (moveRuled o m e d x t .verdict))
-    unfolding verdictOf firstFailing unless move moveRuled ruled moveDecision task object hasWrite moveNamed mayMove writes allWrite driven moveRows
+    unfolding verdictOf firstFailing unless move moveRuled moveDecision task object hasWrite moveNamed mayMove writes allWrite driven moveRows
     move-verdict e d x f t =
         let honest = L x ⊑ L e in
         under (moveNamed (m .bytes) e d x f t) _ _ _
@@ -198,7 +197,7 @@ module _ (o : Order) (m : Memory) where
 
     pub delete-verdict : (e d x k : ℕ) → verdictOf (delete o m e d x k)
         ≡ deleteRows (m .bytes) (m .words) e d x k (apart (L x ⊑ L d) (deleteRuled o m e d x .verdict))
-    unfolding verdictOf firstFailing delete deleteRuled ruled deleteDecision task object hasWrite writes bothWrite driven deleteRows
+    unfolding verdictOf firstFailing delete deleteRuled deleteDecision task object hasWrite writes bothWrite driven deleteRows
     delete-verdict e d x k =
         last-two named (eqb (driverOf m x) d) (liesIn m x k) (hasWrite m e k && hasWrite m d k) (L x ⊑ L e) (L x ⊑ L d) empty (feedsUnmarked m x)
         ∙ ⊎-elim

@@ -1,6 +1,6 @@
 -- The tests and rows of the events on objects, the facts that each goes by, its decision with the verdict of all its rows, and what it leaves by a decision.
 -- Assumes nothing.
-use mathlib.Core.Bool.{Bool, false, not, _&&_, _||_}
+use mathlib.Core.Bool.{Bool, not, _&&_, _||_}
 use mathlib.Core.List.{List, [], _∷_}
 use Prim.Native.Nat.{ℕ}
 use lib.Dec.{eqb}
@@ -16,9 +16,7 @@ use Rattle.model.specs.Events.{unless, feedsUnmarked, read, write, move, delete
 use Rattle.places.specs.Places.{bytesInside}
 use Rattle.decisions.specs.declared.Decision.{Decision}
 use Rattle.decisions.specs.Facts.{writes, bothWrite}
-use Rattle.decisions.specs.Decisions.{settled, judged}
-use Rattle.table.specs.declared.Operation.the-variants.{Read, Write, Move, Delete}
-use Rattle.table.specs.Table.{ruled}
+use Rattle.decisions.specs.Decisions.{settled, judged, readDecision, writeDecision, moveDecision, deleteDecision}
 
 -- ---- tests that the code makes in a function of their own
 
@@ -85,25 +83,25 @@ module _ (o : Order) (m : Memory) where
   R x = readLevelOf m x
 
   unfoldable pub readRuled : ℕ → ℕ → ℕ → Decision
-  readRuled e d x = ruled Read (L e ⊑ L d) (R e ⊑ L d) (L e ⊑ L x) (R e ⊑ L x) (marked m d) (marked m e)
+  readRuled e d x = readDecision (L e ⊑ L d) (R e ⊑ L d) (L e ⊑ L x) (R e ⊑ L x) (marked m d) (marked m e)
 
   abbrev pub readJudged : ℕ → ℕ → ℕ → Decision
   readJudged e d x = judged (read o m e d x) (settled (readRuled e d x))
 
   unfoldable pub writeRuled : ℕ → ℕ → ℕ → Decision
-  writeRuled e d x = ruled Write (L x ⊑ L e) (marked m d) false false false false
+  writeRuled e d x = writeDecision (L x ⊑ L e) (marked m d)
 
   abbrev pub writeJudged : ℕ → ℕ → ℕ → Decision
   writeJudged e d x = judged (write o m e d x) (settled (writeRuled e d x))
 
   unfoldable pub moveRuled : ℕ → ℕ → ℕ → ℕ → Decision
-  moveRuled e d x t = ruled Move (L x ⊑ L e) (L x ⊑ L t) (marked m d) false false false
+  moveRuled e d x t = moveDecision (L x ⊑ L e) (L x ⊑ L t) (marked m d)
 
   abbrev pub moveJudged : ℕ → ℕ → ℕ → ℕ → ℕ → Decision
   moveJudged e d x f t = judged (move o m e d x f t) (settled (moveRuled e d x t))
 
   unfoldable pub deleteRuled : ℕ → ℕ → ℕ → Decision
-  deleteRuled e d x = ruled Delete (L x ⊑ L e) (marked m d) false false false false
+  deleteRuled e d x = deleteDecision (L x ⊑ L e) (marked m d)
 
   abbrev pub deleteJudged : ℕ → ℕ → ℕ → ℕ → Decision
   deleteJudged e d x k = judged (delete o m e d x k) (settled (deleteRuled e d x))

@@ -34,9 +34,6 @@ use records::READ_LEVEL;
 use records::is_object;
 use rows::NUMBERS;
 use table::Engine;
-use table::Operation;
-use table::UNUSED;
-use table::decide;
 
 // The rows of the numbers and of the driver of x, above the rest of the table.
 fn driven(bytes: &[u8], named: bool, d: u16, x: u16, rest: u8) -> u8
@@ -49,9 +46,8 @@ fn driven(bytes: &[u8], named: bool, d: u16, x: u16, rest: u8) -> u8
 fn read_decided(bytes: &[u8], order: Order, engine: Engine, e: u16, d: u16, x: u16) -> Decision
     ensures { λ r. ⌜ ((ws : List ℕ) → r ≡ settled (readRuled order (memory (now (bytes .entry)) ws) e d x)) ⌝ }
 {
-    decide(
+    table::read(
         engine,
-        Operation::Read,
         below(bytes, order, e, LEVEL, d),
         below(bytes, order, e, READ_LEVEL, d),
         below(bytes, order, e, LEVEL, x),
@@ -73,16 +69,7 @@ pub fn read(bytes: &[u8], order: Order, engine: Engine, e: u16, d: u16, x: u16) 
 fn write_decided(bytes: &[u8], order: Order, engine: Engine, e: u16, d: u16, x: u16) -> Decision
     ensures { λ r. ⌜ ((ws : List ℕ) → r ≡ settled (writeRuled order (memory (now (bytes .entry)) ws) e d x)) ⌝ }
 {
-    decide(
-        engine,
-        Operation::Write,
-        below(bytes, order, x, LEVEL, e),
-        marked(bytes, d),
-        UNUSED,
-        UNUSED,
-        UNUSED,
-        UNUSED,
-    )
+    table::write(engine, below(bytes, order, x, LEVEL, e), marked(bytes, d))
 }
 
 pub fn write(bytes: &[u8], order: Order, engine: Engine, e: u16, d: u16, x: u16) -> Decision
@@ -105,15 +92,11 @@ fn move_decided(
 ) -> Decision
     ensures { λ r. ⌜ ((ws : List ℕ) → r ≡ settled (moveRuled order (memory (now (bytes .entry)) ws) e d x t)) ⌝ }
 {
-    decide(
+    table::move_object(
         engine,
-        Operation::Move,
         below(bytes, order, x, LEVEL, e),
         below(bytes, order, x, LEVEL, t),
         marked(bytes, d),
-        UNUSED,
-        UNUSED,
-        UNUSED,
     )
 }
 
@@ -173,16 +156,7 @@ pub fn move_object(
 fn delete_decided(bytes: &[u8], order: Order, engine: Engine, e: u16, d: u16, x: u16) -> Decision
     ensures { λ r. ⌜ ((ws : List ℕ) → r ≡ settled (deleteRuled order (memory (now (bytes .entry)) ws) e d x)) ⌝ }
 {
-    decide(
-        engine,
-        Operation::Delete,
-        below(bytes, order, x, LEVEL, e),
-        marked(bytes, d),
-        UNUSED,
-        UNUSED,
-        UNUSED,
-        UNUSED,
-    )
+    table::delete(engine, below(bytes, order, x, LEVEL, e), marked(bytes, d))
 }
 
 fn is_empty(bytes: &[u8], x: u16) -> bool

@@ -15,9 +15,6 @@ use Rattle.model.specs.Effects.{effect, effects}
 use Rattle.model.specs.Events.{unless, firstFailing, verdictOf, callTask, invoke, pass, post, find, risky}
 use Rattle.decisions.specs.Decisions.{callDecision, invokeDecision, relayDecision}
 use Rattle.decisions.specs.DecisionLaws.{Told, told-by, under, task-small}
-use Rattle.table.specs.declared.Operation.{Operation}
-use Rattle.table.specs.declared.Operation.the-variants.{Call, Invoke, Pass, Post}
-use Rattle.table.specs.Table.{ruled}
 use Rattle.flows.specs.Judged.{callRuled, invokeRuled, relayRuled, callJudged, invokeJudged, passJudged, postJudged, findJudged, callDoes, invokeDoes, relayDoes}
 
 -- the rows that a pass and a post have above the rule
@@ -27,11 +24,11 @@ relay-rows named others held = ap (λ (v : ℕ). unless named row-number (unless
 
 module _ (o : Order) (m : Memory) where
   pub call-verdict : (a b : ℕ) → verdictOf (callTask o m a b) ≡ unless (task m a && task m b) row-number (callRuled o m a b .verdict)
-  unfolding verdictOf firstFailing unless callTask ruled callDecision callRuled
+  unfolding verdictOf firstFailing unless callTask callDecision callRuled
   call-verdict a b = refl
 
   pub invoke-verdict : (a b : ℕ) → verdictOf (invoke o m a b) ≡ unless (task m a && task m b) row-number (invokeRuled o m a b .verdict)
-  unfolding verdictOf firstFailing unless invoke ruled invokeDecision invokeRuled
+  unfolding verdictOf firstFailing unless invoke invokeDecision invokeRuled
   invoke-verdict a b = refl
 
   -- from the test of the numbers and the rows below it
@@ -46,8 +43,8 @@ module _ (o : Order) (m : Memory) where
     pub pass-verdict : (z x y : ℕ) → verdictOf (pass o m z x y)
         ≡ unless (task m z && object m x && inUse m y) row-number
         (unless (not (eqb y x)) row-place
-        (unless (hasFlow m z y && (ltb z numbers && hasRead m z x)) row-held (relayRuled o m Pass z x .verdict)))
-    unfolding verdictOf firstFailing unless pass risky ruled relayDecision relayRuled
+        (unless (hasFlow m z y && (ltb z numbers && hasRead m z x)) row-held (relayRuled o m z x .verdict)))
+    unfolding verdictOf firstFailing unless pass risky relayDecision relayRuled
     pass-verdict z x y =
         under (task m z && object m x && inUse m y) _ _ _
         (λ e. rw (lt-ltb z numbers (task-small m z l (and-l _ _ (and-l (task m z && object m x) (inUse m y) e)))))
@@ -55,28 +52,28 @@ module _ (o : Order) (m : Memory) where
     pub post-verdict : (x z y : ℕ) → verdictOf (post o m x z y)
         ≡ unless (task m x && object m z && task m y) row-number
         (unless (not (eqb x y)) row-place
-        (unless (hasFlow m x z && (ltb y numbers && hasRead m y z)) row-held (relayRuled o m Post y z .verdict)))
-    unfolding verdictOf firstFailing unless post risky ruled relayDecision relayRuled
+        (unless (hasFlow m x z && (ltb y numbers && hasRead m y z)) row-held (relayRuled o m y z .verdict)))
+    unfolding verdictOf firstFailing unless post risky relayDecision relayRuled
     post-verdict x z y =
         under (task m x && object m z && task m y) _ _ _
         (λ e. rw (lt-ltb y numbers (task-small m y l (and-r (task m x && object m z) (task m y) e))))
 
   -- ---- effects
   pub call-told : (a b : ℕ) → Told m (callTask o m a b) (callJudged o m a b) (λ d. callDoes a b (d .first) (d .second))
-  unfolding callTask ruled callDecision callRuled unless effects effect
+  unfolding callTask callDecision callRuled unless effects effect
   call-told a b = told-by (callRuled o m a b) refl (callDoes a b) (λ t. rw (t .1 .0)) refl
 
   pub invoke-told : (a b : ℕ) → Told m (invoke o m a b) (invokeJudged o m a b) (λ d. invokeDoes a b (d .first) (d .second))
-  unfolding invoke ruled invokeDecision invokeRuled unless effects effect
+  unfolding invoke invokeDecision invokeRuled unless effects effect
   invoke-told a b = told-by (invokeRuled o m a b) refl (invokeDoes a b) (λ t. rw (t .1 .0)) refl
 
   pub pass-told : (z x y : ℕ) → Told m (pass o m z x y) (passJudged o m z x y) (λ d. relayDoes x y (d .first) (d .second))
-  unfolding pass risky ruled relayDecision relayRuled unless effects effect
-  pass-told z x y = told-by (relayRuled o m Pass z x) refl (relayDoes x y) (λ t. rw (t .1 .1 .1 .0)) refl
+  unfolding pass risky relayDecision relayRuled unless effects effect
+  pass-told z x y = told-by (relayRuled o m z x) refl (relayDoes x y) (λ t. rw (t .1 .1 .1 .0)) refl
 
   pub post-told : (x z y : ℕ) → Told m (post o m x z y) (postJudged o m x z y) (λ d. relayDoes x y (d .first) (d .second))
-  unfolding post risky ruled relayDecision relayRuled unless effects effect
-  post-told x z y = told-by (relayRuled o m Post y z) refl (relayDoes x y) (λ t. rw (t .1 .1 .1 .0)) refl
+  unfolding post risky relayDecision relayRuled unless effects effect
+  post-told x z y = told-by (relayRuled o m y z) refl (relayDoes x y) (λ t. rw (t .1 .1 .1 .0)) refl
 
   pub find-told : (x z y : ℕ) → Told m (find o m x z y) (findJudged o m x z y) (λ d. relayDoes x y (d .first) (d .second))
   unfolding find effects effect

@@ -9,10 +9,7 @@ use Rattle.model.specs.State.{Memory, levelOf, readLevelOf, driverOf, marked}
 use Rattle.model.specs.Effects.{Effect, flow-if}
 use Rattle.model.specs.Events.{verdictOf, callTask, invoke, pass, post, find}
 use Rattle.decisions.specs.declared.Decision.{Decision}
-use Rattle.decisions.specs.Decisions.{settled, judged}
-use Rattle.table.specs.declared.Operation.{Operation}
-use Rattle.table.specs.declared.Operation.the-variants.{Call, Invoke, Pass, Post}
-use Rattle.table.specs.Table.{ruled}
+use Rattle.decisions.specs.Decisions.{settled, judged, callDecision, invokeDecision, relayDecision}
 
 -- ---- the flows of each event, in document 01's order: whether the first is recorded, and the second
 
@@ -38,26 +35,26 @@ module _ (o : Order) (m : Memory) where
   R x = readLevelOf m x
 
   unfoldable pub callRuled : ℕ → ℕ → Decision
-  callRuled a b = ruled Call (L a ⊑ L b) (R a ⊑ L b) (marked m a) (marked m b) false false
+  callRuled a b = callDecision (L a ⊑ L b) (R a ⊑ L b) (marked m a) (marked m b)
 
   abbrev pub callJudged : ℕ → ℕ → Decision
   callJudged a b = judged (callTask o m a b) (settled (callRuled a b))
 
   unfoldable pub invokeRuled : ℕ → ℕ → Decision
-  invokeRuled a b = ruled Invoke (L b ⊑ L a) (marked m a) false false false false
+  invokeRuled a b = invokeDecision (L b ⊑ L a) (marked m a)
 
   abbrev pub invokeJudged : ℕ → ℕ → Decision
   invokeJudged a b = judged (invoke o m a b) (settled (invokeRuled a b))
 
   -- whether what the task z read of the object x goes on, by a pass or a post
-  unfoldable pub relayRuled : Operation → ℕ → ℕ → Decision
-  relayRuled op z x = ruled op (L z ⊑ L x) (R z ⊑ L x) (L z ⊑ L (driverOf m x)) (R z ⊑ L (driverOf m x)) (marked m z) false
+  unfoldable pub relayRuled : ℕ → ℕ → Decision
+  relayRuled z x = relayDecision (L z ⊑ L x) (R z ⊑ L x) (L z ⊑ L (driverOf m x)) (R z ⊑ L (driverOf m x)) (marked m z)
 
   abbrev pub passJudged : ℕ → ℕ → ℕ → Decision
-  passJudged z x y = judged (pass o m z x y) (settled (relayRuled Pass z x))
+  passJudged z x y = judged (pass o m z x y) (settled (relayRuled z x))
 
   abbrev pub postJudged : ℕ → ℕ → ℕ → Decision
-  postJudged x z y = judged (post o m x z y) (settled (relayRuled Post y z))
+  postJudged x z y = judged (post o m x z y) (settled (relayRuled y z))
 
   abbrev pub findJudged : ℕ → ℕ → ℕ → Decision
   findJudged x z y = record { verdict = verdictOf (find o m x z y); first = true; second = false }

@@ -24,22 +24,16 @@ use records::is_object;
 use records::is_task;
 use rows::READS;
 use table::Engine;
-use table::Operation;
-use table::UNUSED;
-use table::decide;
 
 pub fn call_task(bytes: &[u8], order: Order, engine: Engine, caller: u16, callee: u16) -> Decision
     ensures { λ r. ⌜ ((ws : List ℕ) → r ≡ callJudged order (memory (now (bytes .entry)) ws) caller callee) ⌝ }
 {
-    let mut judged = decide(
+    let mut judged = table::call_task(
         engine,
-        Operation::Call,
         below(bytes, order, caller, LEVEL, callee),
         below(bytes, order, caller, READ_LEVEL, callee),
         marked(bytes, caller),
         marked(bytes, callee),
-        UNUSED,
-        UNUSED,
     );
     let named = is_task(bytes, caller) & is_task(bytes, callee);
     judged.verdict = unless(named, NUMBER, judged.verdict);
@@ -49,15 +43,10 @@ pub fn call_task(bytes: &[u8], order: Order, engine: Engine, caller: u16, callee
 pub fn invoke(bytes: &[u8], order: Order, engine: Engine, invoker: u16, invokee: u16) -> Decision
     ensures { λ r. ⌜ ((ws : List ℕ) → r ≡ invokeJudged order (memory (now (bytes .entry)) ws) invoker invokee) ⌝ }
 {
-    let mut judged = decide(
+    let mut judged = table::invoke(
         engine,
-        Operation::Invoke,
         below(bytes, order, invokee, LEVEL, invoker),
         marked(bytes, invoker),
-        UNUSED,
-        UNUSED,
-        UNUSED,
-        UNUSED,
     );
     let named = is_task(bytes, invoker) & is_task(bytes, invokee);
     judged.verdict = unless(named, NUMBER, judged.verdict);
@@ -65,27 +54,20 @@ pub fn invoke(bytes: &[u8], order: Order, engine: Engine, invoker: u16, invokee:
 }
 
 // Whether what the task z read of the object x goes on, by a pass or a post.
-fn relay(
-    bytes: &[u8],
-    order: Order,
-    engine: Engine,
-    operation: Operation,
-    z: u16,
-    x: u16,
-) -> Decision
-    ensures { λ r. ⌜ ((ws : List ℕ) → r ≡ settled (relayRuled order (memory (now (bytes .entry)) ws) operation z x)) ⌝ }
+fn relay(bytes: &[u8], order: Order, engine: Engine, posted: bool, z: u16, x: u16) -> Decision
+    ensures { λ r. ⌜ ((ws : List ℕ) → r ≡ settled (relayRuled order (memory (now (bytes .entry)) ws) z x)) ⌝ }
 {
     let driver = records::field(bytes, x, DRIVER) as u16;
-    decide(
-        engine,
-        operation,
-        below(bytes, order, z, LEVEL, x),
-        below(bytes, order, z, READ_LEVEL, x),
-        below(bytes, order, z, LEVEL, driver),
-        below(bytes, order, z, READ_LEVEL, driver),
-        marked(bytes, z),
-        UNUSED,
-    )
+    let f0 = below(bytes, order, z, LEVEL, x);
+    let f1 = below(bytes, order, z, READ_LEVEL, x);
+    let f2 = below(bytes, order, z, LEVEL, driver);
+    let f3 = below(bytes, order, z, READ_LEVEL, driver);
+    let f4 = marked(bytes, z);
+    if posted {
+        table::post(engine, f0, f1, f2, f3, f4)
+    } else {
+        table::pass(engine, f0, f1, f2, f3, f4)
+    }
 }
 
 pub fn pass(
@@ -100,7 +82,7 @@ pub fn pass(
     requires { ⌜ BytesLent (now bytes) ⌝ }
     ensures { λ r. ⌜ r ≡ passJudged order (memory (now (bytes .entry)) (now (words .entry))) z x y ⌝ }
 {
-    let mut judged = relay(bytes, order, engine, Operation::Pass, z, x);
+    let mut judged = relay(bytes, order, engine, false, z, x);
     let named = is_task(bytes, z) & is_object(bytes, x) & in_use(bytes, y);
     let held = rows::has(words, z, y) & has_access(words, READS, z, x);
     let row = unless(y != x, PLACE, unless(held, HELD, judged.verdict));
@@ -120,7 +102,7 @@ pub fn post(
     requires { ⌜ BytesLent (now bytes) ⌝ }
     ensures { λ r. ⌜ r ≡ postJudged order (memory (now (bytes .entry)) (now (words .entry))) x z y ⌝ }
 {
-    let mut judged = relay(bytes, order, engine, Operation::Post, y, z);
+    let mut judged = relay(bytes, order, engine, true, y, z);
     let named = is_task(bytes, x) & is_object(bytes, z) & is_task(bytes, y);
     let held = rows::has(words, x, z) & has_access(words, READS, y, z);
     let row = unless(x != y, PLACE, unless(held, HELD, judged.verdict));

@@ -20,7 +20,6 @@ use model::Answer;
 use model::Checked;
 use model::Report;
 use model::Tally;
-use table::Engine;
 use tallies::Entry;
 
 // As calls::call_lent, for a request and by the table.
@@ -34,7 +33,7 @@ fn request_lent(
     ensures { λ r. ⌜ ToldEntry (memory (now (bytes .entry)) (now (words .entry))) (callOf request) (refusedUnless (eqb lent numbers) row-state (memory (now (bytes .entry)) (now (words .entry))) (model.perform order (memory (now (bytes .entry)) (now (words .entry))) (callOf request))) r (now (bytes .exit)) (now (words .exit)) ⌝ }
 {
     let call = calls::call_of(request);
-    calls::call_lent(bytes, words, lent, order, Engine::Table, call)
+    calls::call_lent(bytes, words, lent, order, table::TABLE, call)
 }
 
 // A whole call over the lent list, as C and Rust call it.
@@ -58,7 +57,7 @@ pub extern "C" fn tupehiwo_perform(
 fn load_lent(bytes: &mut [u8], words: &mut [u64], lent: usize, order: Order, text: &[u8]) -> Entry
     ensures { λ r. ⌜ LoadEntry (refusedUnless (eqb lent numbers) row-state (memory (now (bytes .entry)) (now (words .entry))) (loads.load order (memory (now (bytes .entry)) (now (words .entry))) (now (text .entry)))) r (now (bytes .exit)) (now (words .exit)) ⌝ }
 {
-    calls::load_lent(bytes, words, lent, order, Engine::Table, text)
+    calls::load_lent(bytes, words, lent, order, table::TABLE, text)
 }
 
 // A whole load over the lent list, as C and Rust call it.

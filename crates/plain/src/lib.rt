@@ -9,7 +9,6 @@ ghost use Rattle.calls.specs.Request.{callOf};
 use calls::Request;
 use levels::Order;
 use model::Answer;
-use table::Engine;
 
 // A whole call.
 #[no_mangle]
@@ -25,7 +24,7 @@ pub extern "C" fn tupehiwo_plain_perform(
         × (leftOver (now (counts .exit)) ≡ leftOver (now (counts .entry))) ⌝ }
 {
     let call = calls::call_of(request);
-    calls::perform(bytes, words, counts, order, Engine::Rules, call)
+    calls::perform(bytes, words, counts, order, table::RULES, call)
 }
 
 // A whole load.
@@ -41,5 +40,5 @@ pub extern "C" fn tupehiwo_plain_load(
         × (r .told ≡ no-word)
         × (leftOver (now (counts .exit)) ≡ leftOver (now (counts .entry))) ⌝ }
 {
-    calls::load_counts(bytes, words, counts, order, Engine::Rules, text)
+    calls::load_counts(bytes, words, counts, order, table::RULES, text)
 }

@@ -110,14 +110,17 @@ module _ (op : Operation) (rows : List (List ℕ)) (all : filled op rows ≡ tru
   unfolding filled
   each s h = all-at settings (λ t. eqb (entryIn rows t) (entryAt op t) && eqb (entryIn rows t) (entryIn rows (t % 2 ^ factsOf op))) all s h
 
-  -- the law of the lookup: what stands for a setting says the plain decision on its facts
-  pub found : (f0 f1 f2 f3 f4 f5 : Bool) → setting f0 f1 f2 f3 f4 f5 < settings → decisionOf (entryIn rows (setting f0 f1 f2 f3 f4 f5)) ≡ decided op f0 f1 f2 f3 f4 f5
-  found f0 f1 f2 f3 f4 f5 h =
-      ap decisionOf (eqb-true _ _ (and-l _ _ (each _ h)) ∙ entry-of op f0 f1 f2 f3 f4 f5) ∙ says op f0 f1 f2 f3 f4 f5
+  -- what stands for a setting is what has to
+  pub stands : (s : ℕ) → s < settings → entryIn rows s ≡ entryAt op s
+  stands s h = eqb-true _ _ (and-l _ _ (each s h))
 
   -- unused facts make no difference
   pub unused : (s : ℕ) → s < settings → entryIn rows s ≡ entryIn rows (s % 2 ^ factsOf op)
   unused s h = eqb-true _ _ (and-r (eqb (entryIn rows s) (entryAt op s)) _ (each s h))
+
+-- the law of the lookup: the entry of a setting says the plain decision on its facts
+pub looked-up : (op : Operation) (f0 f1 f2 f3 f4 f5 : Bool) → decisionOf (entryAt op (setting f0 f1 f2 f3 f4 f5)) ≡ decided op f0 f1 f2 f3 f4 f5
+looked-up op f0 f1 f2 f3 f4 f5 = ap decisionOf (entry-of op f0 f1 f2 f3 f4 f5) ∙ says op f0 f1 f2 f3 f4 f5
 
 -- each fact that an operation has makes a difference somewhere: some entry is not that of its setting without the fact
 pub used : (op : Operation) → allB (factsOf op) (λ i. anyB settings (λ s. not (eqb (entryAt op s) (entryAt op (s % 2 ^ i + 2 ^ suc i * (s / 2 ^ suc i)))))) ≡ true

@@ -3,7 +3,8 @@ ghost use mathlib.Core.Path.{_≡_};
 ghost use mathlib.Core.Bool.{true};
 ghost use Prim.Native.Nat.{_<_};
 ghost use Rattle.bits.specs.All.{one};
-ghost use Rattle.table.specs.Table.{setting, settings, ruled, decided, decisionOf, filled};
+ghost use Rattle.decisions.specs.Decisions.{settled, readDecision, writeDecision, moveDecision, deleteDecision, callDecision, invokeDecision, relayDecision};
+ghost use Rattle.table.specs.Table.{setting, settings, decided, decisionOf, filled};
 use decisions::Decision;
 use decisions::settled;
 
@@ -19,14 +20,15 @@ pub enum Operation {
     Post,
 }
 
-// The engine that decides: the table, or the plain rules.
-pub enum Engine {
-    Table,
-    Rules,
-}
+// The engine that decides: the table, or the plain rules. A bool, since a constant bool that is handed down is known in every function below.
+pub type Engine = bool;
+
+pub const TABLE: Engine = true;
+
+pub const RULES: Engine = false;
 
 // In the place of a fact that an operation does not have.
-pub const UNUSED: bool = false;
+const UNUSED: bool = false;
 
 // The table: 512 numbers, 64 for each operation, one for each setting of six facts.
 // Above an operation's numbers stand its facts, fact 0 first, and its flows; L and R are the levels of document 01. In the setting s, fact i is bit i of s, and the entry is in row s / 8, column s % 8: a row goes through facts 0, 1 and 2, and the rows through facts 3, 4 and 5. Unused facts make no difference.
@@ -128,22 +130,6 @@ const POST: [[u8; 8]; 8] = [
     [16, 16, 16, 16, 16, 16, 16, 16],
 ];
 
-// An operation's part of the table. That it is filled, for every operation, is the one fact about the table.
-fn rows_of(operation: Operation) -> [[u8; 8]; 8]
-    ensures { λ r. ⌜ filled operation r ≡ true ⌝ }
-{
-    match operation {
-        Operation::Read => READ,
-        Operation::Write => WRITE,
-        Operation::Move => MOVE,
-        Operation::Delete => DELETE,
-        Operation::Call => CALL,
-        Operation::Invoke => INVOKE,
-        Operation::Pass => PASS,
-        Operation::Post => POST,
-    }
-}
-
 fn digit(fact: bool) -> usize
     ensures { λ r. ⌜ (r ≡ one fact) × (r < 2) ⌝ }
 {
@@ -169,7 +155,9 @@ fn meaning(entry: u8) -> Decision
     }
 }
 
-fn by_table(
+// The decision of an operation, looked up in its part of the table. That the part is filled is the fact about the table.
+fn look_up(
+    part: [[u8; 8]; 8],
     operation: Operation,
     f0: bool,
     f1: bool,
@@ -178,66 +166,119 @@ fn by_table(
     f4: bool,
     f5: bool,
 ) -> Decision
+    requires { ⌜ filled operation part ≡ true ⌝ }
     ensures { λ r. ⌜ r ≡ decided operation «f0» «f1» «f2» «f3» «f4» «f5» ⌝ }
 {
-    let rows = rows_of(operation);
     let s = setting(f0, f1, f2, f3, f4, f5);
-    meaning(rows[s / 8][s % 8])
+    meaning(part[s / 8][s % 8])
 }
 
-// The plain rule of an operation.
-fn rule(
-    operation: Operation,
-    f0: bool,
-    f1: bool,
-    f2: bool,
-    f3: bool,
-    f4: bool,
-    f5: bool,
-) -> Decision
-    ensures { λ r. ⌜ r ≡ ruled operation «f0» «f1» «f2» «f3» «f4» «f5» ⌝ }
+// ---- The decisions, by either engine. No engine stands in a contract: both decide alike.
+// Each function names its own part of the table: a constant array is made anew where it is named, and of one of 512 numbers every lookup would store all.
+
+pub fn read(engine: Engine, f0: bool, f1: bool, f2: bool, f3: bool, f4: bool, f5: bool) -> Decision
+    ensures { λ r. ⌜ r ≡ settled (readDecision «f0» «f1» «f2» «f3» «f4» «f5») ⌝ }
 {
-    match operation {
-        Operation::Read => decisions::read(f0, f1, f2, f3, f4, f5),
-        Operation::Write => decisions::write(f0, f1),
-        Operation::Move => decisions::move_object(f0, f1, f2),
-        Operation::Delete => decisions::delete(f0, f1),
-        Operation::Call => decisions::call_task(f0, f1, f2, f3),
-        Operation::Invoke => decisions::invoke(f0, f1),
-        Operation::Pass => decisions::relay(f0, f1, f2, f3, f4),
-        Operation::Post => decisions::relay(f0, f1, f2, f3, f4),
+    if engine == TABLE {
+        look_up(READ, Operation::Read, f0, f1, f2, f3, f4, f5)
+    } else {
+        settled(decisions::read(f0, f1, f2, f3, f4, f5))
     }
 }
 
-fn by_rules(
-    operation: Operation,
-    f0: bool,
-    f1: bool,
-    f2: bool,
-    f3: bool,
-    f4: bool,
-    f5: bool,
-) -> Decision
-    ensures { λ r. ⌜ r ≡ decided operation «f0» «f1» «f2» «f3» «f4» «f5» ⌝ }
+pub fn write(engine: Engine, f0: bool, f1: bool) -> Decision
+    ensures { λ r. ⌜ r ≡ settled (writeDecision «f0» «f1») ⌝ }
 {
-    settled(rule(operation, f0, f1, f2, f3, f4, f5))
+    if engine == TABLE {
+        look_up(
+            WRITE,
+            Operation::Write,
+            f0,
+            f1,
+            UNUSED,
+            UNUSED,
+            UNUSED,
+            UNUSED,
+        )
+    } else {
+        settled(decisions::write(f0, f1))
+    }
 }
 
-// The decision of an operation on its facts. No engine stands in the contract: both decide alike.
-pub fn decide(
-    engine: Engine,
-    operation: Operation,
-    f0: bool,
-    f1: bool,
-    f2: bool,
-    f3: bool,
-    f4: bool,
-    f5: bool,
-) -> Decision
-    ensures { λ r. ⌜ r ≡ decided operation «f0» «f1» «f2» «f3» «f4» «f5» ⌝ }
+pub fn move_object(engine: Engine, f0: bool, f1: bool, f2: bool) -> Decision
+    ensures { λ r. ⌜ r ≡ settled (moveDecision «f0» «f1» «f2») ⌝ }
 {
-    match engine {
-        Engine::Table => by_table(operation, f0, f1, f2, f3, f4, f5),
-        Engine::Rules => by_rules(operation, f0, f1, f2, f3, f4, f5),
+    if engine == TABLE {
+        look_up(MOVE, Operation::Move, f0, f1, f2, UNUSED, UNUSED, UNUSED)
+    } else {
+        settled(decisions::move_object(f0, f1, f2))
+    }
+}
+
+pub fn delete(engine: Engine, f0: bool, f1: bool) -> Decision
+    ensures { λ r. ⌜ r ≡ settled (deleteDecision «f0» «f1») ⌝ }
+{
+    if engine == TABLE {
+        look_up(
+            DELETE,
+            Operation::Delete,
+            f0,
+            f1,
+            UNUSED,
+            UNUSED,
+            UNUSED,
+            UNUSED,
+        )
+    } else {
+        settled(decisions::delete(f0, f1))
+    }
+}
+
+pub fn call_task(engine: Engine, f0: bool, f1: bool, f2: bool, f3: bool) -> Decision
+    ensures { λ r. ⌜ r ≡ settled (callDecision «f0» «f1» «f2» «f3») ⌝ }
+{
+    if engine == TABLE {
+        look_up(CALL, Operation::Call, f0, f1, f2, f3, UNUSED, UNUSED)
+    } else {
+        settled(decisions::call_task(f0, f1, f2, f3))
+    }
+}
+
+pub fn invoke(engine: Engine, f0: bool, f1: bool) -> Decision
+    ensures { λ r. ⌜ r ≡ settled (invokeDecision «f0» «f1») ⌝ }
+{
+    if engine == TABLE {
+        look_up(
+            INVOKE,
+            Operation::Invoke,
+            f0,
+            f1,
+            UNUSED,
+            UNUSED,
+            UNUSED,
+            UNUSED,
+        )
+    } else {
+        settled(decisions::invoke(f0, f1))
+    }
+}
+
+pub fn pass(engine: Engine, f0: bool, f1: bool, f2: bool, f3: bool, f4: bool) -> Decision
+    ensures { λ r. ⌜ r ≡ settled (relayDecision «f0» «f1» «f2» «f3» «f4») ⌝ }
+{
+    if engine == TABLE {
+        look_up(PASS, Operation::Pass, f0, f1, f2, f3, f4, UNUSED)
+    } else {
+        settled(decisions::relay(f0, f1, f2, f3, f4))
+    }
+}
+
+pub fn post(engine: Engine, f0: bool, f1: bool, f2: bool, f3: bool, f4: bool) -> Decision
+    ensures { λ r. ⌜ r ≡ settled (relayDecision «f0» «f1» «f2» «f3» «f4») ⌝ }
+{
+    if engine == TABLE {
+        look_up(POST, Operation::Post, f0, f1, f2, f3, f4, UNUSED)
+    } else {
+        settled(decisions::relay(f0, f1, f2, f3, f4))
     }
 }

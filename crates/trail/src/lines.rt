@@ -3,7 +3,6 @@ use levels::Order;
 use model::Call;
 use script::Line;
 use script::print::Reply;
-use table::Engine;
 ghost use mathlib.Core.Path.{_≡_};
 ghost use Rattle.model.specs.State.{memory};
 ghost use Rattle.tallies.specs.Counts.{recordsIn};
@@ -18,7 +17,7 @@ pub struct Done {
 fn start(bytes: &mut [u8], words: &mut [u64], counts: &mut [u32], kept: Order, order: Order) -> Done
     ensures { λ r. ⌜ leaves r (now (bytes .exit)) (now (words .exit)) (now (counts .exit)) ≡ startedWith (memory (now (bytes .entry)) (now (words .entry))) (recordsIn (now (counts .entry))) kept order ⌝ }
 {
-    let answer = calls::perform(bytes, words, counts, order, Engine::Table, Call::Start);
+    let answer = calls::perform(bytes, words, counts, order, table::TABLE, Call::Start);
     let verdict = answer.verdict;
     let reply = Reply::Verdict(verdict);
     if verdict == model::GRANTED {
@@ -41,7 +40,7 @@ fn reply_to(call: Call, verdict: u8, rounds: u8) -> Reply
 fn ask(bytes: &mut [u8], words: &mut [u64], counts: &mut [u32], order: Order, call: Call) -> Done
     ensures { λ r. ⌜ leaves r (now (bytes .exit)) (now (words .exit)) (now (counts .exit)) ≡ asked (memory (now (bytes .entry)) (now (words .entry))) (recordsIn (now (counts .entry))) order call ⌝ }
 {
-    let answer = calls::perform(bytes, words, counts, order, Engine::Table, call);
+    let answer = calls::perform(bytes, words, counts, order, table::TABLE, call);
     let reply = reply_to(call, answer.verdict, answer.rounds);
     Done { reply, order }
 }

@@ -7,7 +7,7 @@ use Rattle.events.proofs.judge.move_decided.Tie as tie
 
 returns : tie.Need-returns
 unfolding marked moveRuled
-returns c = λ ws. simp (c .decide .ensures, c .before .marked .ensures, c .before .before .below2 .ensures, c .before .before .before .below .ensures) refl
+returns c = λ ws. simp (c .move-object .ensures, c .before .marked .ensures, c .before .before .below2 .ensures, c .before .before .before .below .ensures) refl
 
 pub move-decided-spec : {M : Type 1} → statement M
 move-decided-spec = tie.close (tie.spec (λ c κs. search needs) (λ c κs. search needs) (λ c κs. search needs) (λ c κs. search needs) returns)

@@ -7,7 +7,7 @@ use Rattle.events.proofs.judge.read_decided.Tie as tie
 
 returns : tie.Need-returns
 unfolding marked readRuled
-returns c = λ ws. simp (c .decide .ensures, c .before .marked2 .ensures, c .before .before .marked .ensures, c .before .before .before .below4 .ensures, c .before .before .before .before .below3 .ensures, c .before .before .before .before .before .below2 .ensures, c .before .before .before .before .before .before .below .ensures) refl
+returns c = λ ws. simp (c .read .ensures, c .before .marked2 .ensures, c .before .before .marked .ensures, c .before .before .before .below4 .ensures, c .before .before .before .before .below3 .ensures, c .before .before .before .before .before .below2 .ensures, c .before .before .before .before .before .before .below .ensures) refl
 
 pub read-decided-spec : {M : Type 1} → statement M
 read-decided-spec =

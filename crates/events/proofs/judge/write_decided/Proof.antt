@@ -7,7 +7,7 @@ use Rattle.events.proofs.judge.write_decided.Tie as tie
 
 returns : tie.Need-returns
 unfolding marked writeRuled
-returns c = λ ws. simp (c .decide .ensures, c .before .marked .ensures, c .before .before .below .ensures) refl
+returns c = λ ws. simp (c .write .ensures, c .before .marked .ensures, c .before .before .below .ensures) refl
 
 pub write-decided-spec : {M : Type 1} → statement M
 write-decided-spec =

@@ -15,7 +15,7 @@ returns c =
     let d = c .before .before .before in
     λ ws. judged-is _ _
     (simp (
-      d .decide .ensures,
+      d .call-task .ensures,
       d .before .marked2 .ensures,
       d .before .before .marked .ensures,
       d .before .before .before .below2 .ensures,

@@ -13,7 +13,7 @@ returns : tie.Need-returns
 unfolding task marked invokeRuled
 returns c =
     let d = c .before .before .before in
-    λ ws. judged-is _ _ (simp (d .decide .ensures, d .before .marked .ensures, d .before .before .below .ensures) refl)
+    λ ws. judged-is _ _ (simp (d .invoke .ensures, d .before .marked .ensures, d .before .before .below .ensures) refl)
     (λ v. rw invoke-verdict (simp (c .unless .ensures, c .before .is-task2 .ensures, c .before .before .is-task .ensures) (ap (unless _ row-number) v)))
 
 pub invoke-spec : {M : Type 1} → statement M

@@ -8,18 +8,33 @@ use Rattle.flows.proofs.judge.relay.Tie as tie
 returns : tie.Need-returns
 unfolding marked relayRuled
 returns c =
+    let m = c .before .before in
     λ ws. simp (
-      c .decide .ensures,
-      c .before .marked .ensures,
-      c .before .before .below4 .ensures,
-      c .before .before .before .below3 .ensures,
-      c .before .before .before .before .below2 .ensures,
-      c .before .before .before .before .before .below .ensures,
-      c .before .before .before .before .before .before .field .ensures,
+      c .post .ensures,
+      m .marked .ensures,
+      m .before .below4 .ensures,
+      m .before .before .below3 .ensures,
+      m .before .before .before .below2 .ensures,
+      m .before .before .before .before .below .ensures,
+      m .before .before .before .before .before .field .ensures,
+    ) refl
+
+returns-2 : tie.Need-returns-2
+unfolding marked relayRuled
+returns-2 c =
+    let m = c .before .before in
+    λ ws. simp (
+      c .pass .ensures,
+      m .marked .ensures,
+      m .before .below4 .ensures,
+      m .before .before .below3 .ensures,
+      m .before .before .before .below2 .ensures,
+      m .before .before .before .before .below .ensures,
+      m .before .before .before .before .before .field .ensures,
     ) refl
 
 pub relay-spec : {M : Type 1} → statement M
 relay-spec =
     tie.close
     (tie.spec (λ c κs. search needs) (λ c. search needs) (λ c κs. search needs) (λ c κs. search needs) (λ c κs. search needs)
-    (λ c κs. search needs) (λ c κs. search needs) (λ c κs. search needs) returns)
+    (λ c κs. search needs) (λ c κs. search needs) (λ c κs. search needs) (λ c κs. search needs) returns returns-2)
