@@ -7,22 +7,29 @@
 //! - [`compare`]: the library and the model side by side, held equal after each call.
 //! - [`author`]: random calls that look at the state, so that each verdict occurs.
 //! - [`list`]: a list of calls from a start, and [`history`]: what its calls have joined.
+//! - [`memories`]: calls on memory that no list need leave.
 //! - [`cast`]: small worlds in which each call is granted, slips or is refused.
 //! - [`worlds`]: random orders and memories, reached from a start or not.
 //! - [`table`]: how often each call gave each verdict, and which pairs cannot occur.
 //! - [`causes`]: the same for the causes that share a verdict.
+//! - [`decisions`]: the decision table and its page, [`settings`]: which of its settings a call
+//!   meets, and [`stages`]: small worlds that meet each.
 
 pub mod author;
 pub mod cases;
 pub mod cast;
 pub mod causes;
 pub mod compare;
+pub mod decisions;
 pub mod history;
 pub mod list;
+pub mod memories;
 pub mod model;
 pub mod prefix;
 pub mod rng;
 pub mod script;
+pub mod settings;
+pub mod stages;
 pub mod table;
 pub mod texts;
 pub mod worlds;

@@ -3,12 +3,17 @@
 use std::collections::BTreeSet;
 
 use crate::author::Author;
-use crate::compare::Pair;
+use crate::compare::{Engine, Pair};
 use crate::history::{self, Chains, History};
 use crate::model::{Lengths, Model, Number, Pairs, THINGS, at_or_below};
 use crate::rng::Rng;
 use crate::{texts, worlds};
 use tupehiwo::ffi::{Order, Request, code};
+
+/// Loads, as starts, are rare, so that worlds grow.
+const ONE_LOAD_OF: usize = 300;
+/// Now and then another list is lent: no call looks at what it holds.
+const ONE_LIST_OF: usize = 30;
 
 pub struct List {
     pub rng: Rng,
@@ -26,9 +31,19 @@ impl List {
     /// Begun under one of such orders, on memory of any kind, with as many numbers for new
     /// things as one of `sizes`.
     pub fn begin(seed: u64, orders: fn(&mut Rng) -> Order, sizes: &[usize]) -> List {
+        List::beside(&[], seed, orders, sizes)
+    }
+
+    /// The same with other engines beside the library.
+    pub fn beside(
+        others: &[Engine],
+        seed: u64,
+        orders: fn(&mut Rng) -> Order,
+        sizes: &[usize],
+    ) -> List {
         let mut rng = Rng::new(seed);
         let order = orders(&mut rng);
-        let mut pair = Pair::new(format!("list of TUPEHIWO_SEED={seed}"));
+        let mut pair = Pair::beside(others, format!("list of TUPEHIWO_SEED={seed}"));
         pair.set_tallies(worlds::tallies(&mut rng));
         if rng.once_in(2) {
             pair.set_state(worlds::sound_state(&mut rng, &order));
@@ -51,6 +66,23 @@ impl List {
     pub fn author(&mut self) -> Author<'_> {
         let state = &self.pair.model.state;
         Author { rng: &mut self.rng, state, order: &self.order, pool: &self.pool }
+    }
+
+    /// Any call, or a load.
+    pub fn any_call(&mut self) {
+        if self.rng.once_in(ONE_LIST_OF) {
+            self.pair.set_tallies(worlds::tallies(&mut self.rng));
+        }
+        let lengths = worlds::lengths(&mut self.rng);
+        if self.rng.once_in(ONE_LOAD_OF) {
+            let order = self.order_of_a_new_state();
+            let text = texts::any(&mut self.rng, &self.order);
+            self.load(lengths, order, &text);
+        } else {
+            let request = self.author().request();
+            let order = self.order_for(request);
+            self.perform(lengths, order, request);
+        }
     }
 
     /// One call, and its verdict. After a granted spread the trail must be exact.

@@ -6,6 +6,7 @@ use std::sync::atomic::{AtomicBool, Ordering};
 use std::{fmt, thread};
 
 use crate::causes::{Cause, Causes};
+use crate::settings::Settings;
 use tupehiwo::ffi::code;
 
 /// The rows of the table: the codes, then what is no code.
@@ -129,6 +130,8 @@ fn impossible(call: usize, verdict: usize) -> Option<&'static str> {
 pub struct Table {
     counts: [[u64; VERDICTS.len()]; CALLS.len()],
     pub causes: Causes,
+    /// Those of the decision table.
+    pub settings: Settings,
 }
 
 impl Table {
@@ -157,6 +160,7 @@ impl Table {
             mine.iter_mut().zip(theirs).for_each(|(mine, theirs)| *mine += theirs);
         }
         self.causes.add(&other.causes);
+        self.settings.add(&other.settings);
     }
 
     /// Panics unless each pair that can occur did, and no other.

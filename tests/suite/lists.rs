@@ -1,50 +1,29 @@
 //! Long random lists of calls, the library and the model held equal after each.
 
-use std::collections::{BTreeMap, BTreeSet};
+use std::collections::BTreeSet;
 
-use tupehiwo::ffi::{Request, code};
-use tupehiwo_tests::author::Author;
+use tupehiwo::ffi::code;
 use tupehiwo_tests::causes::{MOVED, NESTED};
 use tupehiwo_tests::compare::Pair;
 use tupehiwo_tests::list::List;
+use tupehiwo_tests::memories::{Memory, Unreached, must_be_unreached};
 use tupehiwo_tests::model::{Lengths, Number, State};
 use tupehiwo_tests::request;
 use tupehiwo_tests::rng::{Rng, seed};
 use tupehiwo_tests::table::{Table, sum_of};
-use tupehiwo_tests::{texts, worlds};
+use tupehiwo_tests::worlds;
 
 const LISTS: u64 = 1200;
 const CALLS_OF_A_LIST: usize = 900;
 /// How many numbers new things get.
 const POOLS: [usize; 6] = [4, 7, 10, 16, 30, 127];
-/// Loads, as starts, are rare, so that worlds grow.
-const ONE_LOAD_OF: usize = 300;
-/// Now and then another list is lent: no call looks at what it holds.
-const ONE_LIST_OF: usize = 30;
 const MEMORIES: u64 = 8000;
 const CALLS_ON_A_MEMORY: usize = 12;
-
-/// Any call, or a load.
-fn one_call(list: &mut List) {
-    if list.rng.once_in(ONE_LIST_OF) {
-        list.pair.set_tallies(worlds::tallies(&mut list.rng));
-    }
-    let lengths = worlds::lengths(&mut list.rng);
-    if list.rng.once_in(ONE_LOAD_OF) {
-        let order = list.order_of_a_new_state();
-        let text = texts::any(&mut list.rng, &list.order);
-        list.load(lengths, order, &text);
-    } else {
-        let request = list.author().request();
-        let order = list.order_for(request);
-        list.perform(lengths, order, request);
-    }
-}
 
 fn one_list(seed: u64) -> Table {
     let mut list = List::begin(seed, worlds::order, &POOLS);
     for call in 1..=CALLS_OF_A_LIST {
-        one_call(&mut list);
+        list.any_call();
         if call % 100 == 0 {
             list.must_keep_the_limits();
         }
@@ -77,58 +56,19 @@ fn must_have_met_containers(table: &Table, least: u64, circles: bool) {
     }
 }
 
-/// In how many memories each was found that no list of calls leaves.
-type Unreached = BTreeMap<&'static str, u64>;
-
-/// Calls on sound memory that no list need leave, damaged now and then, under its
-/// own order or another.
-fn calls_on_one_memory(seed: u64, pool: &[Number], unreached: &mut Unreached) -> Table {
-    let mut rng = Rng::new(seed);
-    let mut pair = Pair::new(format!("memory of TUPEHIWO_SEED={seed}"));
-    let usual = worlds::order(&mut rng);
-    let state = worlds::sound_state(&mut rng, &usual);
-    for (what, found) in worlds::unreached(&state, &usual) {
-        *unreached.entry(what).or_default() += u64::from(found);
-    }
-    pair.set_state(state);
-    for _ in 0..CALLS_ON_A_MEMORY {
-        pair.set_tallies(worlds::tallies(&mut rng));
-        if rng.once_in(40) {
-            let value = rng.pick(&[0, 1, 2, 3, 4, 127, 128, 255]);
-            pair.set_byte(rng.below(1024), value);
-        }
-        let other = rng.once_in(6);
-        let order = if other { worlds::other_order(&mut rng, usual) } else { usual };
-        if rng.once_in(15) {
-            let text = texts::any(&mut rng, &usual);
-            pair.load_with(worlds::lengths(&mut rng), order, &text);
-            continue;
-        }
-        let starting = rng.once_in(30);
-        let state = &pair.model.state;
-        let mut author = Author { rng: &mut rng, state, order: &order, pool };
-        let request = if starting { Request::default() } else { author.request() };
-        pair.perform_with(worlds::lengths(&mut rng), order, request);
-    }
-    pair.table
-}
-
 #[test]
 fn calls_on_any_memory() {
     let first = seed("calls_on_any_memory");
-    let pool: Vec<Number> = (0..128).collect();
     let mut table = Table::default();
     let mut unreached = Unreached::new();
     for number in 0..MEMORIES {
-        table.add(&calls_on_one_memory(first.wrapping_add(number), &pool, &mut unreached));
+        let memory = Memory::new(first.wrapping_add(number), worlds::sound_state);
+        table.add(&memory.calls(CALLS_ON_A_MEMORY, &mut unreached));
     }
     println!("{} calls on any memory\n{table}", table.calls());
     table.must_be_complete();
     must_have_met_containers(&table, 20, true);
-    for (what, memories) in unreached {
-        println!("that no list leaves, in {memories} memories of {MEMORIES}: {what}");
-        assert!(memories > MEMORIES / 50);
-    }
+    must_be_unreached(&unreached, MEMORIES);
 }
 
 /// What chains reach, by a search that knows no rounds.
