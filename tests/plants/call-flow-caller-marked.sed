@@ -1,0 +1,1 @@
+/^static uint8_t call(/,/^}/s/if (trusted || marked(s, caller))/if (trusted)/

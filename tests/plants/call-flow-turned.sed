@@ -1,0 +1,1 @@
+/^static uint8_t call(/,/^}/s/add(s, FLOWS, callee, caller);/add(s, FLOWS, caller, callee);/

@@ -1,0 +1,1 @@
+/^static uint8_t call(/,/^}/s/if (!trusted \&\& !below/if (!trusted \&\& !marked(s, caller) \&\& !below/

@@ -1,0 +1,1 @@
+/^static uint8_t delete_object(/,/^}/s/^    if (marked(s, driver))$/    if (marked(s, driver) || marked(s, task))/

@@ -1,0 +1,1 @@
+/^static uint8_t move(/,/^}/s/^        add(s, FLOWS, task, object);//

@@ -1,0 +1,1 @@
+/^static uint8_t move(/,/^}/s/if (captured) {/if (captured || marked(s, task)) {/

@@ -1,0 +1,1 @@
+/^static uint8_t move(/,/^}/s/!below(s, lo, level(s, driver)) || !below/!below/

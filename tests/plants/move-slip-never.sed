@@ -1,0 +1,1 @@
+/^static uint8_t move(/,/^}/s/(!honest \&\& !captured)/!honest/

@@ -1,0 +1,1 @@
+/^static uint8_t pass(/,/^}/s/if (!marked(s, z) \&\& risky/if (!marked(s, z) \&\& !marked(s, x) \&\& risky/

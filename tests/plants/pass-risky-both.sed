@@ -1,0 +1,1 @@
+/^static int risky(/,/^}/s/)) || (!below/)) \&\& (!below/

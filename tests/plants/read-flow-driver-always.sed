@@ -1,0 +1,1 @@
+/^static uint8_t read(/,/^}/s/^        if (captured)$/        if (1)/

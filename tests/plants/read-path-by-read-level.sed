@@ -1,0 +1,1 @@
+/^static uint8_t read(/,/^}/s/if (!below(s, le, ld) \&\& !below(s, re, ld))/if (!below(s, re, ld))/

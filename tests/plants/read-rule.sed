@@ -1,0 +1,1 @@
+/^static uint8_t read(/,/^}/s/if (!below(s, lo, ld) || (!honest \&\& !captured))/if (!honest \&\& !captured)/

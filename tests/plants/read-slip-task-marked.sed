@@ -1,0 +1,1 @@
+/^static uint8_t read(/,/^}/s/(!honest \&\& !captured)/(!honest \&\& !captured \&\& !marked(s, task))/

@@ -1,0 +1,1 @@
+/^static uint8_t write(/,/^}/s/^    add(s, FLOWS, task, object);/    if (honest) add(s, FLOWS, task, object);/
