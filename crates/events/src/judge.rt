@@ -1,9 +1,10 @@
 // The verdict of each event, and which of its flows are recorded.
 ghost use mathlib.Core.Path.{_≡_};
+ghost use mathlib.Core.Bool.{true, _&&_};
 ghost use mathlib.Core.List.{List};
 ghost use Prim.Native.Nat.{ℕ, _<_};
 ghost use Rattle.rows.specs.Size.{numbers, WordsLent};
-ghost use Rattle.records.specs.Records.{BytesLent};
+ghost use Rattle.records.specs.Records.{BytesLent, isTask, isObject};
 ghost use Rattle.model.specs.Verdicts.{granted};
 ghost use Rattle.model.specs.State.{memory};
 ghost use Rattle.model.specs.Ready.{Ready};
@@ -57,12 +58,14 @@ fn read_decided(bytes: &[u8], order: Order, engine: Engine, e: u16, d: u16, x: u
     )
 }
 
+// A read and a write come with numbers that have been tested.
 pub fn read(bytes: &[u8], order: Order, engine: Engine, e: u16, d: u16, x: u16) -> Decision
+    requires { ⌜ (isTask (now bytes) e && isTask (now bytes) d && isObject (now bytes) x) ≡ true ⌝ }
     ensures { λ r. ⌜ ((ws : List ℕ) → r ≡ readJudged order (memory (now (bytes .entry)) ws) e d x) ⌝ }
 {
     let mut judged = read_decided(bytes, order, engine, e, d, x);
     let rule = apart(below(bytes, order, x, LEVEL, d), judged.verdict);
-    judged.verdict = driven(bytes, are_named(bytes, e, d, x), d, x, rule);
+    judged.verdict = driven(bytes, true, d, x, rule);
     judged
 }
 
@@ -73,11 +76,12 @@ fn write_decided(bytes: &[u8], order: Order, engine: Engine, e: u16, d: u16, x: 
 }
 
 pub fn write(bytes: &[u8], order: Order, engine: Engine, e: u16, d: u16, x: u16) -> Decision
+    requires { ⌜ (isTask (now bytes) e && isTask (now bytes) d && isObject (now bytes) x) ≡ true ⌝ }
     ensures { λ r. ⌜ ((ws : List ℕ) → r ≡ writeJudged order (memory (now (bytes .entry)) ws) e d x) ⌝ }
 {
     let mut judged = write_decided(bytes, order, engine, e, d, x);
     let rule = apart(below(bytes, order, x, LEVEL, d), judged.verdict);
-    judged.verdict = driven(bytes, are_named(bytes, e, d, x), d, x, rule);
+    judged.verdict = driven(bytes, true, d, x, rule);
     judged
 }
 

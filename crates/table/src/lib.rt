@@ -1,7 +1,8 @@
 // The decision table, and the two engines: by the table, and by the plain rules.
 ghost use mathlib.Core.Path.{_≡_};
-ghost use mathlib.Core.Bool.{true};
+ghost use mathlib.Core.Bool.{true, false, cond};
 ghost use Prim.Native.Nat.{_<_};
+ghost use lib.ListN.{getD};
 ghost use Rattle.bits.specs.All.{one};
 ghost use Rattle.decisions.specs.Decisions.{settled, readDecision, writeDecision, moveDecision, deleteDecision, callDecision, invokeDecision, relayDecision};
 ghost use Rattle.table.specs.Table.{setting, settings, decided, decisionOf, filled};
@@ -173,6 +174,46 @@ fn look_up(
     meaning(part[s / 8][s % 8])
 }
 
+fn choose(fact: bool, yes: u8, no: u8) -> u8
+    ensures { λ r. ⌜ r ≡ cond «fact» yes no ⌝ }
+{
+    if fact { yes } else { no }
+}
+
+// The entry of three facts in a row.
+fn in_row(entries: [u8; 8], f0: bool, f1: bool, f2: bool) -> u8
+    ensures { λ r. ⌜ r ≡ getD entries (setting «f0» «f1» «f2» false false false) 0 ⌝ }
+{
+    let four = choose(
+        f1,
+        choose(f0, entries[7], entries[6]),
+        choose(f0, entries[5], entries[4]),
+    );
+    let rest = choose(
+        f1,
+        choose(f0, entries[3], entries[2]),
+        choose(f0, entries[1], entries[0]),
+    );
+    choose(f2, four, rest)
+}
+
+// As look_up, of at most four facts: they reach two rows, whose entries are chosen without being stored first.
+fn look_up_few(
+    part: [[u8; 8]; 8],
+    operation: Operation,
+    f0: bool,
+    f1: bool,
+    f2: bool,
+    f3: bool,
+) -> Decision
+    requires { ⌜ filled operation part ≡ true ⌝ }
+    ensures { λ r. ⌜ r ≡ decided operation «f0» «f1» «f2» «f3» false false ⌝ }
+{
+    let with = in_row(part[1], f0, f1, f2);
+    let without = in_row(part[0], f0, f1, f2);
+    meaning(choose(f3, with, without))
+}
+
 // ---- The decisions, by either engine. No engine stands in a contract: both decide alike.
 // Each function names its own part of the table: a constant array is made anew where it is named, and of one of 512 numbers every lookup would store all.
 
@@ -190,16 +231,7 @@ pub fn write(engine: Engine, f0: bool, f1: bool) -> Decision
     ensures { λ r. ⌜ r ≡ settled (writeDecision «f0» «f1») ⌝ }
 {
     if engine == TABLE {
-        look_up(
-            WRITE,
-            Operation::Write,
-            f0,
-            f1,
-            UNUSED,
-            UNUSED,
-            UNUSED,
-            UNUSED,
-        )
+        look_up_few(WRITE, Operation::Write, f0, f1, UNUSED, UNUSED)
     } else {
         settled(decisions::write(f0, f1))
     }
@@ -209,7 +241,7 @@ pub fn move_object(engine: Engine, f0: bool, f1: bool, f2: bool) -> Decision
     ensures { λ r. ⌜ r ≡ settled (moveDecision «f0» «f1» «f2») ⌝ }
 {
     if engine == TABLE {
-        look_up(MOVE, Operation::Move, f0, f1, f2, UNUSED, UNUSED, UNUSED)
+        look_up_few(MOVE, Operation::Move, f0, f1, f2, UNUSED)
     } else {
         settled(decisions::move_object(f0, f1, f2))
     }
@@ -219,16 +251,7 @@ pub fn delete(engine: Engine, f0: bool, f1: bool) -> Decision
     ensures { λ r. ⌜ r ≡ settled (deleteDecision «f0» «f1») ⌝ }
 {
     if engine == TABLE {
-        look_up(
-            DELETE,
-            Operation::Delete,
-            f0,
-            f1,
-            UNUSED,
-            UNUSED,
-            UNUSED,
-            UNUSED,
-        )
+        look_up_few(DELETE, Operation::Delete, f0, f1, UNUSED, UNUSED)
     } else {
         settled(decisions::delete(f0, f1))
     }
@@ -238,7 +261,7 @@ pub fn call_task(engine: Engine, f0: bool, f1: bool, f2: bool, f3: bool) -> Deci
     ensures { λ r. ⌜ r ≡ settled (callDecision «f0» «f1» «f2» «f3») ⌝ }
 {
     if engine == TABLE {
-        look_up(CALL, Operation::Call, f0, f1, f2, f3, UNUSED, UNUSED)
+        look_up_few(CALL, Operation::Call, f0, f1, f2, f3)
     } else {
         settled(decisions::call_task(f0, f1, f2, f3))
     }
@@ -248,16 +271,7 @@ pub fn invoke(engine: Engine, f0: bool, f1: bool) -> Decision
     ensures { λ r. ⌜ r ≡ settled (invokeDecision «f0» «f1») ⌝ }
 {
     if engine == TABLE {
-        look_up(
-            INVOKE,
-            Operation::Invoke,
-            f0,
-            f1,
-            UNUSED,
-            UNUSED,
-            UNUSED,
-            UNUSED,
-        )
+        look_up_few(INVOKE, Operation::Invoke, f0, f1, UNUSED, UNUSED)
     } else {
         settled(decisions::invoke(f0, f1))
     }

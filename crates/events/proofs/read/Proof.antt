@@ -1,7 +1,7 @@
 use mathlib.Core.Path.{_∙_, sym}
 use mathlib.Core.List.{[]}
 use borrow.Author.Needs.{needs}
-use borrow.Author.Tests.{not-true}
+use borrow.Author.Tests.{not-true, not-false}
 use Rattle.model.specs.State.{task, object}
 use Rattle.decisions.specs.DecisionLaws.{done, refused}
 use Rattle.events.specs.EventLaws.{unnamed, read-verdict, read-told, read-fits}
@@ -11,6 +11,9 @@ use Rattle.events.proofs.read.Tie as tie
 returns : tie.Need-returns
 unfolding task object
 returns c = unnamed _ _ _ _ _ _ (read-verdict _ _ _ _ _) (sym (c .before .are-named .ensures) ∙ not-true _ (c .if1 .taken))
+
+read-requires : tie.Need-read-requires
+read-requires c κs = sym (c .before .are-named .ensures) ∙ not-false _ (c .if1 .left)
 
 read-requires-2 : tie.Need-read-requires-2
 read-requires-2 c κs =
@@ -26,4 +29,4 @@ returns-3 : tie.Need-returns-3
 returns-3 c = refused (read-told _ _ _ _ _) (c .before .before .read .ensures _) (c .if2 .left)
 
 pub read-spec : {M : Type 1} → statement M
-read-spec = tie.close (tie.spec (λ c κs. search needs) returns (λ c κs. search needs) read-requires-2 (λ c. search needs) returns-2 returns-3)
+read-spec = tie.close (tie.spec (λ c κs. search needs) returns read-requires read-requires-2 (λ c. search needs) returns-2 returns-3)

@@ -1,7 +1,7 @@
 use mathlib.Core.Path.{_∙_, sym}
 use mathlib.Core.List.{[]}
 use borrow.Author.Needs.{needs}
-use borrow.Author.Tests.{not-true}
+use borrow.Author.Tests.{not-true, not-false}
 use Rattle.model.specs.State.{task, object}
 use Rattle.decisions.specs.DecisionLaws.{done, refused}
 use Rattle.events.specs.EventLaws.{unnamed, write-verdict, write-told, write-fits}
@@ -11,6 +11,9 @@ use Rattle.events.proofs.write.Tie as tie
 returns : tie.Need-returns
 unfolding task object
 returns c = unnamed _ _ _ _ _ _ (write-verdict _ _ _ _ _) (sym (c .before .are-named .ensures) ∙ not-true _ (c .if1 .taken))
+
+write-requires : tie.Need-write-requires
+write-requires c κs = sym (c .before .are-named .ensures) ∙ not-false _ (c .if1 .left)
 
 write-requires-2 : tie.Need-write-requires-2
 write-requires-2 c κs =
@@ -26,4 +29,4 @@ returns-3 : tie.Need-returns-3
 returns-3 c = refused (write-told _ _ _ _ _) (c .before .before .write .ensures _) (c .if2 .left)
 
 pub write-spec : {M : Type 1} → statement M
-write-spec = tie.close (tie.spec (λ c κs. search needs) returns (λ c κs. search needs) write-requires-2 (λ c. search needs) returns-2 returns-3)
+write-spec = tie.close (tie.spec (λ c κs. search needs) returns write-requires write-requires-2 (λ c. search needs) returns-2 returns-3)

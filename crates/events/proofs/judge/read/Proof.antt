@@ -1,13 +1,20 @@
+use mathlib.Core.Path.{ap, ap₂, _∙_}
+use mathlib.Core.Bool.{true}
 use borrow.Author.Needs.{needs}
 use Rattle.model.specs.State.{task, object}
+use Rattle.decisions.specs.Decisions.{apart}
 use Rattle.decisions.specs.DecisionLaws.{judged-is}
+use Rattle.events.specs.Judged.{driven}
 use Rattle.events.specs.EventLaws.{read-verdict}
 use Rattle.events.proofs.judge.read.Statement.{statement}
 use Rattle.events.proofs.judge.read.Tie as tie
 
 returns : tie.Need-returns
 unfolding task object
-returns c = λ ws. judged-is _ _ (c .before .before .before .before .read-decided .ensures ws) (λ v. rw read-verdict (cc))
+returns c =
+    let d = c .before .before .before in
+    λ ws. judged-is _ _ (d .read-decided .ensures ws)
+    (λ v. rw (read-verdict, d .before .before .pre) (c .driven .ensures ∙ ap (driven _ true _ _) (c .before .apart .ensures ∙ ap₂ apart (c .before .before .below .ensures) v)))
 
 pub read-spec : {M : Type 1} → statement M
-read-spec = tie.close (tie.spec (λ c κs. search needs) (λ c κs. search needs) (λ c κs. search needs) (λ c κs. search needs) (λ c κs. search needs) returns)
+read-spec = tie.close (tie.spec (λ c κs. search needs) (λ c κs. search needs) (λ c κs. search needs) (λ c κs. search needs) returns)
