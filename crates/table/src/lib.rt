@@ -174,30 +174,31 @@ fn look_up(
     meaning(part[s / 8][s % 8])
 }
 
-fn choose(fact: bool, yes: u8, no: u8) -> u8
+fn choose(fact: bool, yes: Decision, no: Decision) -> Decision
     ensures { λ r. ⌜ r ≡ cond «fact» yes no ⌝ }
 {
     if fact { yes } else { no }
 }
 
-// The entry of three facts in a row.
-fn in_row(entries: [u8; 8], f0: bool, f1: bool, f2: bool) -> u8
-    ensures { λ r. ⌜ r ≡ getD entries (setting «f0» «f1» «f2» false false false) 0 ⌝ }
+// What the entry of two facts says, of four.
+fn of_four(f0: bool, f1: bool, e0: u8, e1: u8, e2: u8, e3: u8) -> Decision
+    ensures { λ r. ⌜ r ≡ cond «f1» (cond «f0» (decisionOf e3) (decisionOf e2)) (cond «f0» (decisionOf e1) (decisionOf e0)) ⌝ }
 {
-    let four = choose(
-        f1,
-        choose(f0, entries[7], entries[6]),
-        choose(f0, entries[5], entries[4]),
-    );
-    let rest = choose(
-        f1,
-        choose(f0, entries[3], entries[2]),
-        choose(f0, entries[1], entries[0]),
-    );
-    choose(f2, four, rest)
+    let with = choose(f0, meaning(e3), meaning(e2));
+    let without = choose(f0, meaning(e1), meaning(e0));
+    choose(f1, with, without)
 }
 
-// As look_up, of at most four facts: they reach two rows, whose entries are chosen without being stored first.
+// What the entry of three facts says, in a row.
+fn in_row(entries: [u8; 8], f0: bool, f1: bool, f2: bool) -> Decision
+    ensures { λ r. ⌜ r ≡ decisionOf (getD entries (setting «f0» «f1» «f2» false false false) 0) ⌝ }
+{
+    let with = of_four(f0, f1, entries[4], entries[5], entries[6], entries[7]);
+    let without = of_four(f0, f1, entries[0], entries[1], entries[2], entries[3]);
+    choose(f2, with, without)
+}
+
+// As look_up, of at most four facts: they reach two rows, from which one chooses without storing the part first.
 fn look_up_few(
     part: [[u8; 8]; 8],
     operation: Operation,
@@ -211,7 +212,7 @@ fn look_up_few(
 {
     let with = in_row(part[1], f0, f1, f2);
     let without = in_row(part[0], f0, f1, f2);
-    meaning(choose(f3, with, without))
+    choose(f3, with, without)
 }
 
 // ---- The decisions, by either engine. No engine stands in a contract: both decide alike.
