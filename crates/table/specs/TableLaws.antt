@@ -1,7 +1,7 @@
 -- Laws of the table: an entry is found by its setting and says its decision.
 -- Assumes nothing.
 use mathlib.Core.Path.{_≡_, refl, ap, _∙_}
-use mathlib.Core.Bool.{Bool, true, false, not, cond, _&&_}
+use mathlib.Core.Bool.{Bool, true, false, not, _&&_}
 use mathlib.Core.List.{List, []}
 use Prim.Native.Nat.{ℕ, suc, _+_, _*_, _/_, _%_, _^_, _<_}
 use native.Mathlib.Omega.{arith}
@@ -123,38 +123,20 @@ module _ (op : Operation) (rows : List (List ℕ)) (all : filled op rows ≡ tru
 pub looked-up : (op : Operation) (f0 f1 f2 f3 f4 f5 : Bool) → decisionOf (entryAt op (setting f0 f1 f2 f3 f4 f5)) ≡ decided op f0 f1 f2 f3 f4 f5
 looked-up op f0 f1 f2 f3 f4 f5 = ap decisionOf (entry-of op f0 f1 f2 f3 f4 f5) ∙ says op f0 f1 f2 f3 f4 f5
 
--- ---- at most four facts
-
-pub chosen : (row : List ℕ) (f0 f1 f2 : Bool)
-    → cond f2 (cond f1 (cond f0 (decisionOf (getD row 7 0)) (decisionOf (getD row 6 0))) (cond f0 (decisionOf (getD row 5 0)) (decisionOf (getD row 4 0))))
-    (cond f1 (cond f0 (decisionOf (getD row 3 0)) (decisionOf (getD row 2 0))) (cond f0 (decisionOf (getD row 1 0)) (decisionOf (getD row 0 0))))
-    ≡ decisionOf (getD row (setting f0 f1 f2 false false false) 0)
-chosen row true true true = refl
-chosen row true true false = refl
-chosen row true false true = refl
-chosen row true false false = refl
-chosen row false true true = refl
-chosen row false true false = refl
-chosen row false false true = refl
-chosen row false false false = refl
+-- ---- at most three facts
 
 one-small : (b : Bool) → one b < 2
 one-small true = omega arith
 one-small false = omega arith
 
--- facts 0, 1 and 2 in the row of fact 3
-two-rows : (rows : List (List ℕ)) (f3 : Bool) (s : ℕ) → s < 8 → cond f3 (decisionOf (getD (getD rows 1 []) s 0)) (decisionOf (getD (getD rows 0 []) s 0)) ≡ decisionOf (entryIn rows (s + 8 * one f3))
-two-rows rows true s h = let q : (s + 8 * 1) / 8 ≡ 1 = omega arith in let r : (s + 8 * 1) % 8 ≡ s = omega arith in rw (q, r)
-two-rows rows false s h = let q : (s + 8 * 0) / 8 ≡ 0 = omega arith in let r : (s + 8 * 0) % 8 ≡ s = omega arith in rw (q, r)
-
-pub of-few : (op : Operation) (rows : List (List ℕ)) → filled op rows ≡ true → (f0 f1 f2 f3 : Bool)
-    → cond f3 (decisionOf (getD (getD rows 1 []) (setting f0 f1 f2 false false false) 0)) (decisionOf (getD (getD rows 0 []) (setting f0 f1 f2 false false false) 0))
-    ≡ decided op f0 f1 f2 f3 false false
-of-few op rows all f0 f1 f2 f3 =
-    let s : setting f0 f1 f2 false false false < 8 = omega (arith, one-small f0, one-small f1, one-small f2) in
-    let e : setting f0 f1 f2 false false false + 8 * one f3 ≡ setting f0 f1 f2 f3 false false = omega arith in
-    let h : setting f0 f1 f2 f3 false false < settings = omega (arith, one-small f0, one-small f1, one-small f2, one-small f3) in
-    two-rows rows f3 _ s ∙ ap decisionOf (ap (entryIn rows) e ∙ stands op rows all _ h) ∙ looked-up op f0 f1 f2 f3 false false
+pub of-few : (op : Operation) (rows : List (List ℕ)) → filled op rows ≡ true → (f0 f1 f2 : Bool)
+    → decisionOf (getD (getD rows 0 []) (one f0 + 2 * (one f1 + 2 * one f2)) 0) ≡ decided op f0 f1 f2 false false false
+of-few op rows all f0 f1 f2 =
+    let e : one f0 + 2 * (one f1 + 2 * one f2) ≡ setting f0 f1 f2 false false false % 8 = omega (arith, one-small f0, one-small f1, one-small f2) in
+    let q : setting f0 f1 f2 false false false / 8 ≡ 0 = omega (arith, one-small f0, one-small f1, one-small f2) in
+    let h : setting f0 f1 f2 false false false < settings = omega (arith, one-small f0, one-small f1, one-small f2) in
+    let r : getD (getD rows 0 []) (one f0 + 2 * (one f1 + 2 * one f2)) 0 ≡ entryIn rows (setting f0 f1 f2 false false false) = rw (e, q) in
+    ap decisionOf (r ∙ stands op rows all _ h) ∙ looked-up op f0 f1 f2 false false false
 
 -- each fact that an operation has makes a difference somewhere: some entry is not that of its setting without the fact
 pub used : (op : Operation) → allB (factsOf op) (λ i. anyB settings (λ s. not (eqb (entryAt op s) (entryAt op (s % 2 ^ i + 2 ^ suc i * (s / 2 ^ suc i)))))) ≡ true

@@ -1,8 +1,7 @@
 // The decision table, and the two engines: by the table, and by the plain rules.
 ghost use mathlib.Core.Path.{_≡_};
-ghost use mathlib.Core.Bool.{true, false, cond};
+ghost use mathlib.Core.Bool.{true, false};
 ghost use Prim.Native.Nat.{_<_};
-ghost use lib.ListN.{getD};
 ghost use Rattle.bits.specs.All.{one};
 ghost use Rattle.decisions.specs.Decisions.{settled, readDecision, writeDecision, moveDecision, deleteDecision, callDecision, invokeDecision, relayDecision};
 ghost use Rattle.table.specs.Table.{setting, settings, decided, decisionOf, filled};
@@ -174,45 +173,13 @@ fn look_up(
     meaning(part[s / 8][s % 8])
 }
 
-fn choose(fact: bool, yes: Decision, no: Decision) -> Decision
-    ensures { λ r. ⌜ r ≡ cond «fact» yes no ⌝ }
-{
-    if fact { yes } else { no }
-}
-
-// What the entry of two facts says, of four.
-fn of_four(f0: bool, f1: bool, e0: u8, e1: u8, e2: u8, e3: u8) -> Decision
-    ensures { λ r. ⌜ r ≡ cond «f1» (cond «f0» (decisionOf e3) (decisionOf e2)) (cond «f0» (decisionOf e1) (decisionOf e0)) ⌝ }
-{
-    let with = choose(f0, meaning(e3), meaning(e2));
-    let without = choose(f0, meaning(e1), meaning(e0));
-    choose(f1, with, without)
-}
-
-// What the entry of three facts says, in a row.
-fn in_row(entries: [u8; 8], f0: bool, f1: bool, f2: bool) -> Decision
-    ensures { λ r. ⌜ r ≡ decisionOf (getD entries (setting «f0» «f1» «f2» false false false) 0) ⌝ }
-{
-    let with = of_four(f0, f1, entries[4], entries[5], entries[6], entries[7]);
-    let without = of_four(f0, f1, entries[0], entries[1], entries[2], entries[3]);
-    choose(f2, with, without)
-}
-
-// As look_up, of at most four facts: they reach two rows, from which one chooses without storing the part first.
-fn look_up_few(
-    part: [[u8; 8]; 8],
-    operation: Operation,
-    f0: bool,
-    f1: bool,
-    f2: bool,
-    f3: bool,
-) -> Decision
+// As look_up, of at most three facts: they reach the first row alone, and no more of the part is stored.
+fn look_up_few(part: [[u8; 8]; 8], operation: Operation, f0: bool, f1: bool, f2: bool) -> Decision
     requires { ⌜ filled operation part ≡ true ⌝ }
-    ensures { λ r. ⌜ r ≡ decided operation «f0» «f1» «f2» «f3» false false ⌝ }
+    ensures { λ r. ⌜ r ≡ decided operation «f0» «f1» «f2» false false false ⌝ }
 {
-    let with = in_row(part[1], f0, f1, f2);
-    let without = in_row(part[0], f0, f1, f2);
-    choose(f3, with, without)
+    let first = part[0];
+    meaning(first[digit(f0) + 2 * (digit(f1) + 2 * digit(f2))])
 }
 
 // ---- The decisions, by either engine. No engine stands in a contract: both decide alike.
@@ -232,7 +199,7 @@ pub fn write(engine: Engine, f0: bool, f1: bool) -> Decision
     ensures { λ r. ⌜ r ≡ settled (writeDecision «f0» «f1») ⌝ }
 {
     if engine == TABLE {
-        look_up_few(WRITE, Operation::Write, f0, f1, UNUSED, UNUSED)
+        look_up_few(WRITE, Operation::Write, f0, f1, UNUSED)
     } else {
         settled(decisions::write(f0, f1))
     }
@@ -242,7 +209,7 @@ pub fn move_object(engine: Engine, f0: bool, f1: bool, f2: bool) -> Decision
     ensures { λ r. ⌜ r ≡ settled (moveDecision «f0» «f1» «f2») ⌝ }
 {
     if engine == TABLE {
-        look_up_few(MOVE, Operation::Move, f0, f1, f2, UNUSED)
+        look_up_few(MOVE, Operation::Move, f0, f1, f2)
     } else {
         settled(decisions::move_object(f0, f1, f2))
     }
@@ -252,7 +219,7 @@ pub fn delete(engine: Engine, f0: bool, f1: bool) -> Decision
     ensures { λ r. ⌜ r ≡ settled (deleteDecision «f0» «f1») ⌝ }
 {
     if engine == TABLE {
-        look_up_few(DELETE, Operation::Delete, f0, f1, UNUSED, UNUSED)
+        look_up_few(DELETE, Operation::Delete, f0, f1, UNUSED)
     } else {
         settled(decisions::delete(f0, f1))
     }
@@ -262,7 +229,7 @@ pub fn call_task(engine: Engine, f0: bool, f1: bool, f2: bool, f3: bool) -> Deci
     ensures { λ r. ⌜ r ≡ settled (callDecision «f0» «f1» «f2» «f3») ⌝ }
 {
     if engine == TABLE {
-        look_up_few(CALL, Operation::Call, f0, f1, f2, f3)
+        look_up(CALL, Operation::Call, f0, f1, f2, f3, UNUSED, UNUSED)
     } else {
         settled(decisions::call_task(f0, f1, f2, f3))
     }
@@ -272,7 +239,7 @@ pub fn invoke(engine: Engine, f0: bool, f1: bool) -> Decision
     ensures { λ r. ⌜ r ≡ settled (invokeDecision «f0» «f1») ⌝ }
 {
     if engine == TABLE {
-        look_up_few(INVOKE, Operation::Invoke, f0, f1, UNUSED, UNUSED)
+        look_up_few(INVOKE, Operation::Invoke, f0, f1, UNUSED)
     } else {
         settled(decisions::invoke(f0, f1))
     }

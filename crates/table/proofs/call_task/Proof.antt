@@ -10,16 +10,16 @@ use Rattle.table.proofs.call_task.Statement.{statement}
 use Rattle.table.proofs.call_task.Tie as tie
 
 -- all 64 entries are tested
-look-up-few-requires : tie.Need-look-up-few-requires
+look-up-requires : tie.Need-look-up-requires
 unfolding filled factsOf allB bit unless settled ruled callDecision
-look-up-few-requires c κs = tested _ tt
+look-up-requires c κs = tested _ tt
 
 returns : tie.Need-returns
 unfolding ruled
-returns c = c .look-up-few .ensures
+returns c = c .look-up .ensures
 
 returns-2 : tie.Need-returns-2
 returns-2 c = c .settled .ensures ∙ ap settled (c .before .call-task .ensures)
 
 pub call-task-spec : {M : Type 1} → statement M
-call-task-spec = tie.close (tie.spec look-up-few-requires (λ c κs. search needs) (λ c κs. search needs) returns returns-2)
+call-task-spec = tie.close (tie.spec look-up-requires (λ c κs. search needs) (λ c κs. search needs) returns returns-2)
