@@ -42,7 +42,8 @@ returns-4 c =
     let k : tie.After-asker = search in
     let e : tie.After-event = search in
     let m = memory (s .args .bytes .now) (s .args .words .now) in
-    event-entry (s .args .order) m (s .args .call) (no-start (s .args .call) (k .before .before .before .before .before .before .before .before .match .keys2)) (ready (s .args .order) m (cc) (cc)) (e .event .result) (e .event .ensures) (k .asker .ensures .0 (s .args .words .now)) (k .asker .ensures .1)
+    let q = event-entry (s .args .order) m (s .args .call) (no-start (s .args .call) (k .before .before .before .before .before .before .before .before .match .keys2)) (ready (s .args .order) m (cc) (cc)) (e .event .result) (e .event .ensures) (k .asker .ensures .0 (s .args .words .now)) (k .asker .ensures .1) in
+    (q .0, q .1, q .2)
 
 pub carry-out-spec : {M : Type 1} → statement M
 carry-out-spec =
