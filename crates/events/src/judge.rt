@@ -63,8 +63,9 @@ pub fn read(bytes: &[u8], order: Order, engine: Engine, e: u16, d: u16, x: u16) 
     requires { ⌜ (isTask (now bytes) e && isTask (now bytes) d && isObject (now bytes) x) ≡ true ⌝ }
     ensures { λ r. ⌜ ((ws : List ℕ) → r ≡ readJudged order (memory (now (bytes .entry)) ws) e d x) ⌝ }
 {
+    let fits = below(bytes, order, x, LEVEL, d);
     let mut judged = read_decided(bytes, order, engine, e, d, x);
-    let rule = apart(below(bytes, order, x, LEVEL, d), judged.verdict);
+    let rule = apart(fits, judged.verdict);
     judged.verdict = driven(bytes, true, d, x, rule);
     judged
 }
@@ -79,8 +80,9 @@ pub fn write(bytes: &[u8], order: Order, engine: Engine, e: u16, d: u16, x: u16)
     requires { ⌜ (isTask (now bytes) e && isTask (now bytes) d && isObject (now bytes) x) ≡ true ⌝ }
     ensures { λ r. ⌜ ((ws : List ℕ) → r ≡ writeJudged order (memory (now (bytes .entry)) ws) e d x) ⌝ }
 {
+    let fits = below(bytes, order, x, LEVEL, d);
     let mut judged = write_decided(bytes, order, engine, e, d, x);
-    let rule = apart(below(bytes, order, x, LEVEL, d), judged.verdict);
+    let rule = apart(fits, judged.verdict);
     judged.verdict = driven(bytes, true, d, x, rule);
     judged
 }
@@ -151,8 +153,9 @@ pub fn move_object(
     requires { ⌜ Ready order (now bytes) (now words) ⌝ }
     ensures { λ r. ⌜ r ≡ moveJudged order (memory (now (bytes .entry)) (now (words .entry))) e d x f t ⌝ }
 {
+    let fits = below(bytes, order, x, LEVEL, d);
     let mut judged = move_decided(bytes, order, engine, e, d, x, t);
-    let rule = apart(below(bytes, order, x, LEVEL, d), judged.verdict);
+    let rule = apart(fits, judged.verdict);
     judged.verdict = move_rows(bytes, words, e, d, x, f, t, rule);
     judged
 }
@@ -212,8 +215,9 @@ pub fn delete(
     requires { ⌜ Ready order (now bytes) (now words) ⌝ }
     ensures { λ r. ⌜ r ≡ deleteJudged order (memory (now (bytes .entry)) (now (words .entry))) e d x k ⌝ }
 {
+    let fits = below(bytes, order, x, LEVEL, d);
     let mut judged = delete_decided(bytes, order, engine, e, d, x);
-    let rule = apart(below(bytes, order, x, LEVEL, d), judged.verdict);
+    let rule = apart(fits, judged.verdict);
     judged.verdict = delete_rows(bytes, words, e, d, x, k, rule);
     judged
 }

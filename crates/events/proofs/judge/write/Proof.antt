@@ -12,9 +12,9 @@ use Rattle.events.proofs.judge.write.Tie as tie
 returns : tie.Need-returns
 unfolding task object
 returns c =
-    let d = c .before .before .before in
+    let d = c .before .before in
     λ ws. judged-is _ _ (d .write-decided .ensures ws)
-    (λ v. rw (write-verdict, d .before .before .pre) (c .driven .ensures ∙ ap (driven _ true _ _) (c .before .apart .ensures ∙ ap₂ apart (c .before .before .below .ensures) v)))
+    (λ v. rw (write-verdict, d .before .before .before .pre) (c .driven .ensures ∙ ap (driven _ true _ _) (c .before .apart .ensures ∙ ap₂ apart (d .before .below .ensures) v)))
 
 pub write-spec : {M : Type 1} → statement M
 write-spec = tie.close (tie.spec (λ c κs. search needs) (λ c κs. search needs) (λ c κs. search needs) (λ c κs. search needs) returns)
