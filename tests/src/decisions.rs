@@ -307,7 +307,7 @@ recorded.
 - Accesses. A read or a write that is granted or slips records its own.
 - The flows by which a deletion bridges what it deletes.
 - The other calls: start, execute, both creates, find, mark, step, spread and report. They look \
-nothing up.
+nothing up. A load looks up for each of its writes.
 ";
 
 /// What docs/DECISION-TABLE.md has to be.
@@ -349,8 +349,9 @@ fn example() -> String {
     let number = READ.entry(setting_of(held)).number();
     format!(
         "For instance, a task at 1 with read level 1 reads an object at 2 through a marked driver \
-         at 3, under the order Q of document 01. Of the facts of a read, 0, 1 and 4 hold. Row 4, \
-         column \"0 1\" has {number}: the read slips, and both flows are recorded.\n"
+         at 3, under the order Q of document 01. Of the facts of a read, 0, 1 and 4 hold. In \
+         the row headed \"4\" and the column headed \"0 1\" stands {number}: the read slips, and \
+         both flows are recorded.\n"
     )
 }
 
@@ -373,6 +374,7 @@ fn unused(used: usize) -> String {
     match used {
         6 => String::new(),
         5 => " Fact 5 makes no difference.".into(),
+        4 => " Facts 4 and 5 make no difference.".into(),
         _ => format!(" Facts {used} to 5 make no difference."),
     }
 }

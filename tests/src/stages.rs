@@ -15,7 +15,7 @@ use tupehiwo::ffi::{Order, Request, code};
 const COMPARED: u16 = 4;
 
 /// Levels and marks of a task, a driver and an object. Another task is as the driver is, and
-/// a container as high as what the task reads.
+/// the new container is at the task's read level.
 #[derive(Clone, Copy, Debug)]
 pub struct Stage {
     pub order: Order,

@@ -399,6 +399,7 @@ fn lists_that_are_far_too_long_or_short() {
         let perform = |request| unsafe {
             tupehiwo_plain_perform(bytes_at, BYTES, words_at, WORDS, list_at, count, Q, request)
         };
+        // SAFETY: as above, and the text with its length.
         let load = unsafe {
             let text = BEGUN.as_bytes();
             let (at, length) = (text.as_ptr(), text.len());

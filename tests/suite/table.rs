@@ -98,7 +98,7 @@ fn the_source_has_the_table() {
     assert!(found == expected, "{SOURCE} has other tables, {unlike:?}, than these:\n{wanted}");
 }
 
-/// Where one number is another, a row is missing, or two tables are exchanged.
+/// Where a number, a row's length or a name is another, a row is missing, or two are exchanged.
 #[test]
 fn another_source_is_seen() {
     let source: String = OPERATIONS.iter().map(as_source).collect();
@@ -110,6 +110,10 @@ fn another_source_is_seen() {
         source.replacen("    [10,", "    [10, 10,", 1),
         source.replacen("const READ", "const REED", 1),
         source.replacen("const PASS", "const POST", 1),
+        source
+            .replacen("READ", "OTHER", 1)
+            .replacen("WRITE", "READ", 1)
+            .replacen("OTHER", "WRITE", 1),
     ] {
         assert!(changed != source && tables_in(&changed) != tables, "{changed}");
     }

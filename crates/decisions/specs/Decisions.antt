@@ -7,7 +7,7 @@ use Rattle.model.specs.Verdicts.{granted, slipped, row-path, row-rule, isDone}
 use Rattle.model.specs.Events.{Event, unless, verdictOf}
 use Rattle.decisions.specs.declared.Decision.{Decision}
 
--- ---- decisions. A fact is named by the two levels that it compares: that of the first is at or below that of the second; `read` is for the asking task's read level. A flow is the first or the second of its event, in document 01's order
+-- ---- decisions. A fact is named by the two levels that it compares, that of the first being at or below that of the second, or by the thing that is marked; `read` is the read level of the task that reads or calls. A flow is the first or the second of its event, in document 01's order
 
 unfoldable pub readDecision : Bool → Bool → Bool → Bool → Bool → Bool → Decision
 readDecision task-driver read-driver task-object read-object driver-marked task-marked =

@@ -24,7 +24,7 @@ pub fn unless(ok: bool, row: u8, rest: u8) -> u8
     if ok { rest } else { row }
 }
 
-// A fact is named by the two levels that it compares: that of the first is at or below that of the second. `read` is for the asking task's read level.
+// A fact is named by the two levels that it compares, that of the first being at or below that of the second, or by the thing that is marked. `read` is the read level of the task that reads or calls.
 pub fn read(
     task_driver: bool,
     read_driver: bool,

@@ -58,7 +58,7 @@ fn read_decided(bytes: &[u8], order: Order, engine: Engine, e: u16, d: u16, x: u
     )
 }
 
-// A read and a write come with numbers that have been tested.
+// A read and a write come with numbers that have been tested. In all four the test apart comes before the decision: so the object's level is read once.
 pub fn read(bytes: &[u8], order: Order, engine: Engine, e: u16, d: u16, x: u16) -> Decision
     requires { ⌜ (isTask (now bytes) e && isTask (now bytes) d && isObject (now bytes) x) ≡ true ⌝ }
     ensures { λ r. ⌜ ((ws : List ℕ) → r ≡ readJudged order (memory (now (bytes .entry)) ws) e d x) ⌝ }

@@ -1,4 +1,4 @@
-// The monitor's public face: every call and load with its list of tallies, the report, and what C and Rust link.
+// The monitor's public face, by the decision table: every call and load with its list of tallies, the report, and what C and Rust link.
 ghost use mathlib.Core.Path.{_≡_};
 ghost use lib.Dec.{eqb};
 ghost use Rattle.rows.specs.Size.{numbers};

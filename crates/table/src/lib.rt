@@ -155,7 +155,7 @@ fn meaning(entry: u8) -> Decision
     }
 }
 
-// The decision of an operation, looked up in its part of the table. That the part is filled is the fact about the table.
+// The decision of an operation, looked up in its part of the table; which operation it is, only the contract asks. That the part is filled is the fact about the table.
 fn look_up(
     part: [[u8; 8]; 8],
     operation: Operation,
