@@ -1,3 +1,4 @@
 pub mod Decisions
 pub mod Facts
+pub mod FactLaws
 pub mod DecisionLaws

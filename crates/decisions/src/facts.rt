@@ -5,18 +5,21 @@ ghost use Prim.Native.Nat.{_+_, _*_, _≤_};
 ghost use lib.Dec.{ltb, eqb};
 ghost use Rattle.rows.specs.Rows.{cell};
 ghost use Rattle.rows.specs.Size.{rowSize, numbers};
-ghost use Rattle.levels.specs.Order.{atOrBelow};
+ghost use Rattle.bits.specs.Bit.{bit};
+ghost use Rattle.levels.specs.Order.{rowOf, atOrBelow};
 ghost use Rattle.records.specs.Records.{field, isTask, isObject};
-ghost use Rattle.decisions.specs.Facts.{writes, bothWrite};
+ghost use Rattle.decisions.specs.Facts.{Levelled, writes, bothWrite};
 use levels::Order;
+use levels::Rows;
 use records::FREE;
 use records::KIND;
 use records::LEVEL;
 use records::MARKS;
+use records::READ_LEVEL;
 use rows::NUMBERS;
 use rows::WRITES;
 
-// The level l is at or below the level of y.
+// The level l, which is given and may be none of the order, is at or below the level of y.
 pub fn level_below(bytes: &[u8], order: Order, l: u16, y: u16) -> bool
     ensures { λ r. ⌜ r ≡ atOrBelow order l (field (now (bytes .entry)) y 1) ⌝ }
 {
@@ -24,12 +27,41 @@ pub fn level_below(bytes: &[u8], order: Order, l: u16, y: u16) -> bool
     levels::at_or_below(order, l, b as u16)
 }
 
-// The level in byte f of x is at or below the level of y.
-pub fn below(bytes: &[u8], order: Order, x: u16, f: u16, y: u16) -> bool
-    ensures { λ r. ⌜ r ≡ atOrBelow order (field (now (bytes .entry)) x f) (field (now (bytes .entry)) y 1) ⌝ }
+// The row of the level of x: the levels that it is at or below.
+pub fn level_row(bytes: &[u8], order: Order, x: u16) -> u16
+    requires { ⌜ Levelled order (now bytes) ⌝ }
+    ensures { λ r. ⌜ r ≡ rowOf order (field (now (bytes .entry)) x 1) ⌝ }
 {
-    let a = records::field(bytes, x, f);
-    level_below(bytes, order, a as u16, y)
+    let a = records::field(bytes, x, LEVEL);
+    levels::row_of(order, a as u16)
+}
+
+// The rows of the level and of the read level of x.
+pub fn level_rows(bytes: &[u8], order: Order, x: u16) -> Rows
+    requires { ⌜ Levelled order (now bytes) ⌝ }
+    ensures { λ r. ⌜ (r .level ≡ rowOf order (field (now (bytes .entry)) x 1)) × (r .read ≡ rowOf order (field (now (bytes .entry)) x 2)) ⌝ }
+{
+    let a = records::field(bytes, x, LEVEL);
+    let b = records::field(bytes, x, READ_LEVEL);
+    levels::rows_of(order, a as u16, b as u16)
+}
+
+// The level of y stands in a row. The order is asked for by the contract alone.
+pub fn reaches(bytes: &[u8], order: Order, row: u16, y: u16) -> bool
+    requires { ⌜ Levelled order (now bytes) ⌝ }
+    ensures { λ r. ⌜ r ≡ bit row (field (now (bytes .entry)) y 1) ⌝ }
+{
+    let b = records::field(bytes, y, LEVEL);
+    levels::in_row(row, b as u16)
+}
+
+// The level of x is at or below the level of y.
+pub fn below(bytes: &[u8], order: Order, x: u16, y: u16) -> bool
+    requires { ⌜ Levelled order (now bytes) ⌝ }
+    ensures { λ r. ⌜ r ≡ atOrBelow order (field (now (bytes .entry)) x 1) (field (now (bytes .entry)) y 1) ⌝ }
+{
+    let row = level_row(bytes, order, x);
+    reaches(bytes, order, row, y)
 }
 
 pub fn marked(bytes: &[u8], x: u16) -> bool

@@ -9,16 +9,20 @@ ghost use Rattle.model.specs.Verdicts.{granted};
 ghost use Rattle.model.specs.State.{memory};
 ghost use Rattle.model.specs.Ready.{Ready};
 ghost use Rattle.model.specs.Events.{feedsUnmarked};
+ghost use Rattle.decisions.specs.Facts.{Levelled};
 ghost use Rattle.decisions.specs.Decisions.{settled};
-ghost use Rattle.events.specs.Judged.{allWrite, mayMove, moveNamed, isEmpty, driven, lastRows, moveRows, deleteRows, readRuled, writeRuled, moveRuled, deleteRuled, readJudged, writeJudged, moveJudged, deleteJudged};
+ghost use Rattle.events.specs.Judged.{allWrite, mayMove, moveNamed, isEmpty, driven, lastRows, moveRows, deleteRows, readRuled, readJudged, writeJudged, moveJudged, deleteJudged};
 use bridging::feeds_unmarked;
 use decisions::Decision;
 use decisions::apart;
 use decisions::facts::are_named;
 use decisions::facts::below;
 use decisions::facts::both_write;
+use decisions::facts::level_row;
+use decisions::facts::level_rows;
 use decisions::facts::marked;
 use decisions::facts::names;
+use decisions::facts::reaches;
 use decisions::facts::writes;
 use decisions::unless;
 use levels::Order;
@@ -30,8 +34,6 @@ use model::NUMBER;
 use model::PLACE;
 use places::lies_inside;
 use records::CONTAINER;
-use records::LEVEL;
-use records::READ_LEVEL;
 use records::is_object;
 use rows::NUMBERS;
 use table::Engine;
@@ -45,65 +47,43 @@ fn driven(bytes: &[u8], named: bool, d: u16, x: u16, rest: u8) -> u8
 }
 
 fn read_decided(bytes: &[u8], order: Order, engine: Engine, e: u16, d: u16, x: u16) -> Decision
+    requires { ⌜ Levelled order (now bytes) ⌝ }
     ensures { λ r. ⌜ ((ws : List ℕ) → r ≡ settled (readRuled order (memory (now (bytes .entry)) ws) e d x)) ⌝ }
 {
+    let rows = level_rows(bytes, order, e);
     table::read(
         engine,
-        below(bytes, order, e, LEVEL, d),
-        below(bytes, order, e, READ_LEVEL, d),
-        below(bytes, order, e, LEVEL, x),
-        below(bytes, order, e, READ_LEVEL, x),
+        reaches(bytes, order, rows.level, d),
+        reaches(bytes, order, rows.read, d),
+        reaches(bytes, order, rows.level, x),
+        reaches(bytes, order, rows.read, x),
         marked(bytes, d),
         marked(bytes, e),
     )
 }
 
-// A read and a write come with numbers that have been tested. In all four the test apart comes before the decision: so the object's level is read once.
+// A read and a write come with numbers that have been tested.
 pub fn read(bytes: &[u8], order: Order, engine: Engine, e: u16, d: u16, x: u16) -> Decision
-    requires { ⌜ (isTask (now bytes) e && isTask (now bytes) d && isObject (now bytes) x) ≡ true ⌝ }
+    requires { ⌜ Levelled order (now bytes) × ((isTask (now bytes) e && isTask (now bytes) d && isObject (now bytes) x) ≡ true) ⌝ }
     ensures { λ r. ⌜ ((ws : List ℕ) → r ≡ readJudged order (memory (now (bytes .entry)) ws) e d x) ⌝ }
 {
-    let fits = below(bytes, order, x, LEVEL, d);
     let mut judged = read_decided(bytes, order, engine, e, d, x);
-    let rule = apart(fits, judged.verdict);
+    let rule = apart(below(bytes, order, x, d), judged.verdict);
     judged.verdict = driven(bytes, true, d, x, rule);
     judged
 }
 
-fn write_decided(bytes: &[u8], order: Order, engine: Engine, e: u16, d: u16, x: u16) -> Decision
-    ensures { λ r. ⌜ ((ws : List ℕ) → r ≡ settled (writeRuled order (memory (now (bytes .entry)) ws) e d x)) ⌝ }
-{
-    table::write(engine, below(bytes, order, x, LEVEL, e), marked(bytes, d))
-}
-
+// In a write, a move and a deletion it is the object's level that is compared, so its row is looked up once.
 pub fn write(bytes: &[u8], order: Order, engine: Engine, e: u16, d: u16, x: u16) -> Decision
-    requires { ⌜ (isTask (now bytes) e && isTask (now bytes) d && isObject (now bytes) x) ≡ true ⌝ }
+    requires { ⌜ Levelled order (now bytes) × ((isTask (now bytes) e && isTask (now bytes) d && isObject (now bytes) x) ≡ true) ⌝ }
     ensures { λ r. ⌜ ((ws : List ℕ) → r ≡ writeJudged order (memory (now (bytes .entry)) ws) e d x) ⌝ }
 {
-    let fits = below(bytes, order, x, LEVEL, d);
-    let mut judged = write_decided(bytes, order, engine, e, d, x);
+    let row = level_row(bytes, order, x);
+    let fits = reaches(bytes, order, row, d);
+    let mut judged = table::write(engine, reaches(bytes, order, row, e), marked(bytes, d));
     let rule = apart(fits, judged.verdict);
     judged.verdict = driven(bytes, true, d, x, rule);
     judged
-}
-
-fn move_decided(
-    bytes: &[u8],
-    order: Order,
-    engine: Engine,
-    e: u16,
-    d: u16,
-    x: u16,
-    t: u16,
-) -> Decision
-    ensures { λ r. ⌜ ((ws : List ℕ) → r ≡ settled (moveRuled order (memory (now (bytes .entry)) ws) e d x t)) ⌝ }
-{
-    table::move_object(
-        engine,
-        below(bytes, order, x, LEVEL, e),
-        below(bytes, order, x, LEVEL, t),
-        marked(bytes, d),
-    )
 }
 
 // The object is in the first container, and all three differ.
@@ -153,17 +133,17 @@ pub fn move_object(
     requires { ⌜ Ready order (now bytes) (now words) ⌝ }
     ensures { λ r. ⌜ r ≡ moveJudged order (memory (now (bytes .entry)) (now (words .entry))) e d x f t ⌝ }
 {
-    let fits = below(bytes, order, x, LEVEL, d);
-    let mut judged = move_decided(bytes, order, engine, e, d, x, t);
+    let row = level_row(bytes, order, x);
+    let fits = reaches(bytes, order, row, d);
+    let mut judged = table::move_object(
+        engine,
+        reaches(bytes, order, row, e),
+        reaches(bytes, order, row, t),
+        marked(bytes, d),
+    );
     let rule = apart(fits, judged.verdict);
     judged.verdict = move_rows(bytes, words, e, d, x, f, t, rule);
     judged
-}
-
-fn delete_decided(bytes: &[u8], order: Order, engine: Engine, e: u16, d: u16, x: u16) -> Decision
-    ensures { λ r. ⌜ ((ws : List ℕ) → r ≡ settled (deleteRuled order (memory (now (bytes .entry)) ws) e d x)) ⌝ }
-{
-    table::delete(engine, below(bytes, order, x, LEVEL, e), marked(bytes, d))
 }
 
 fn is_empty(bytes: &[u8], x: u16) -> bool
@@ -215,8 +195,9 @@ pub fn delete(
     requires { ⌜ Ready order (now bytes) (now words) ⌝ }
     ensures { λ r. ⌜ r ≡ deleteJudged order (memory (now (bytes .entry)) (now (words .entry))) e d x k ⌝ }
 {
-    let fits = below(bytes, order, x, LEVEL, d);
-    let mut judged = delete_decided(bytes, order, engine, e, d, x);
+    let row = level_row(bytes, order, x);
+    let fits = reaches(bytes, order, row, d);
+    let mut judged = table::delete(engine, reaches(bytes, order, row, e), marked(bytes, d));
     let rule = apart(fits, judged.verdict);
     judged.verdict = delete_rows(bytes, words, e, d, x, k, rule);
     judged

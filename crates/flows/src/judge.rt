@@ -4,13 +4,16 @@ ghost use mathlib.Core.List.{List};
 ghost use Prim.Native.Nat.{ℕ};
 ghost use Rattle.records.specs.Records.{BytesLent};
 ghost use Rattle.model.specs.State.{memory};
+ghost use Rattle.decisions.specs.Facts.{Levelled};
 ghost use Rattle.decisions.specs.Decisions.{settled};
 ghost use Rattle.flows.specs.Judged.{relayRuled, callJudged, invokeJudged, passJudged, postJudged, findJudged};
 use decisions::Decision;
 use decisions::facts::below;
 use decisions::facts::has_access;
 use decisions::facts::in_use;
+use decisions::facts::level_rows;
 use decisions::facts::marked;
+use decisions::facts::reaches;
 use decisions::unless;
 use levels::Order;
 use model::GRANTED;
@@ -18,20 +21,20 @@ use model::HELD;
 use model::NUMBER;
 use model::PLACE;
 use records::DRIVER;
-use records::LEVEL;
-use records::READ_LEVEL;
 use records::is_object;
 use records::is_task;
 use rows::READS;
 use table::Engine;
 
 pub fn call_task(bytes: &[u8], order: Order, engine: Engine, caller: u16, callee: u16) -> Decision
+    requires { ⌜ Levelled order (now bytes) ⌝ }
     ensures { λ r. ⌜ ((ws : List ℕ) → r ≡ callJudged order (memory (now (bytes .entry)) ws) caller callee) ⌝ }
 {
+    let rows = level_rows(bytes, order, caller);
     let mut judged = table::call_task(
         engine,
-        below(bytes, order, caller, LEVEL, callee),
-        below(bytes, order, caller, READ_LEVEL, callee),
+        reaches(bytes, order, rows.level, callee),
+        reaches(bytes, order, rows.read, callee),
         marked(bytes, caller),
         marked(bytes, callee),
     );
@@ -41,13 +44,11 @@ pub fn call_task(bytes: &[u8], order: Order, engine: Engine, caller: u16, callee
 }
 
 pub fn invoke(bytes: &[u8], order: Order, engine: Engine, invoker: u16, invokee: u16) -> Decision
+    requires { ⌜ Levelled order (now bytes) ⌝ }
     ensures { λ r. ⌜ ((ws : List ℕ) → r ≡ invokeJudged order (memory (now (bytes .entry)) ws) invoker invokee) ⌝ }
 {
-    let mut judged = table::invoke(
-        engine,
-        below(bytes, order, invokee, LEVEL, invoker),
-        marked(bytes, invoker),
-    );
+    let below = below(bytes, order, invokee, invoker);
+    let mut judged = table::invoke(engine, below, marked(bytes, invoker));
     let named = is_task(bytes, invoker) & is_task(bytes, invokee);
     judged.verdict = unless(named, NUMBER, judged.verdict);
     judged
@@ -55,13 +56,15 @@ pub fn invoke(bytes: &[u8], order: Order, engine: Engine, invoker: u16, invokee:
 
 // Whether what the task z read of the object x goes on, by a pass or a post.
 fn relay(bytes: &[u8], order: Order, engine: Engine, posted: bool, z: u16, x: u16) -> Decision
+    requires { ⌜ Levelled order (now bytes) ⌝ }
     ensures { λ r. ⌜ ((ws : List ℕ) → r ≡ settled (relayRuled order (memory (now (bytes .entry)) ws) z x)) ⌝ }
 {
     let driver = records::field(bytes, x, DRIVER) as u16;
-    let f0 = below(bytes, order, z, LEVEL, x);
-    let f1 = below(bytes, order, z, READ_LEVEL, x);
-    let f2 = below(bytes, order, z, LEVEL, driver);
-    let f3 = below(bytes, order, z, READ_LEVEL, driver);
+    let rows = level_rows(bytes, order, z);
+    let f0 = reaches(bytes, order, rows.level, x);
+    let f1 = reaches(bytes, order, rows.read, x);
+    let f2 = reaches(bytes, order, rows.level, driver);
+    let f3 = reaches(bytes, order, rows.read, driver);
     let f4 = marked(bytes, z);
     if posted {
         table::post(engine, f0, f1, f2, f3, f4)
@@ -79,7 +82,7 @@ pub fn pass(
     x: u16,
     y: u16,
 ) -> Decision
-    requires { ⌜ BytesLent (now bytes) ⌝ }
+    requires { ⌜ BytesLent (now bytes) × Levelled order (now bytes) ⌝ }
     ensures { λ r. ⌜ r ≡ passJudged order (memory (now (bytes .entry)) (now (words .entry))) z x y ⌝ }
 {
     let mut judged = relay(bytes, order, engine, false, z, x);
@@ -99,7 +102,7 @@ pub fn post(
     z: u16,
     y: u16,
 ) -> Decision
-    requires { ⌜ BytesLent (now bytes) ⌝ }
+    requires { ⌜ BytesLent (now bytes) × Levelled order (now bytes) ⌝ }
     ensures { λ r. ⌜ r ≡ postJudged order (memory (now (bytes .entry)) (now (words .entry))) x z y ⌝ }
 {
     let mut judged = relay(bytes, order, engine, true, y, z);

@@ -12,9 +12,13 @@ use Rattle.levels.specs.declared.Order.{Order}
 abbrev pub mostLevels : ℕ
 mostLevels = 16
 
+-- row a
+abbrev pub rowOf : Order → ℕ → ℕ
+rowOf o a = getD (o .rows) a 0
+
 -- bit b of row a
 abbrev pub related : Order → ℕ → ℕ → Bool
-related o a b = bit (getD (o .rows) a 0) b
+related o a b = bit (rowOf o a) b
 
 -- "in the order": below the count as lent
 abbrev pub inOrder : Order → ℕ → Bool

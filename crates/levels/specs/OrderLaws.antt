@@ -27,9 +27,13 @@ pub both-in : (o : Order) (a b : ℕ) → atOrBelow o a b ≡ true → (a < o .c
 unfolding atOrBelow
 both-in o a b e = let p = simp and-eq-true-iff at e in (ltb-true _ _ (p .0 .0), ltb-true _ _ (p .0 .1))
 
-pub at-i : (o : Order) (a b : ℕ) → a < o .count → b < o .count → related o a b ≡ true → atOrBelow o a b ≡ true
+-- within the order a comparison is a bit of a row
+pub by-row : (o : Order) (a b : ℕ) → a < o .count → b < o .count → atOrBelow o a b ≡ related o a b
 unfolding atOrBelow
-at-i o a b la lb e = rw (lt-ltb a (o .count) la, lt-ltb b (o .count) lb) e
+by-row o a b la lb = rw (lt-ltb a (o .count) la, lt-ltb b (o .count) lb)
+
+pub at-i : (o : Order) (a b : ℕ) → a < o .count → b < o .count → related o a b ≡ true → atOrBelow o a b ≡ true
+at-i o a b la lb e = by-row o a b la lb ∙ e
 
 pub at-related : (o : Order) (a b : ℕ) → atOrBelow o a b ≡ true → related o a b ≡ true
 unfolding atOrBelow

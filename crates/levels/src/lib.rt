@@ -4,7 +4,8 @@ ghost use mathlib.Core.Bool.{true, false, cond};
 ghost use Prim.Native.Nat.{_≤_, _<_};
 ghost use lib.Dec.{ltb};
 ghost use lib.ListN.{getD};
-ghost use Rattle.levels.specs.Order.{atOrBelow, orderPasses};
+ghost use Rattle.bits.specs.Bit.{bit};
+ghost use Rattle.levels.specs.Order.{mostLevels, rowOf, atOrBelow, orderPasses};
 ghost use Rattle.levels.specs.OrderRows.{RowsFit, closed, AllCovered, Passed, rowFits, levelPasses, LevelCovered, restEmpty, rowsPass};
 
 #[repr(C)]
@@ -26,6 +27,42 @@ pub fn at_or_below(order: Order, a: u16, b: u16) -> bool
     } else {
         false
     }
+}
+
+// The row of level a: a bit for each level that it is at or below. Several comparisons of one level look its row up once.
+pub fn row_of(order: Order, a: u16) -> u16
+    requires { ⌜ a < mostLevels ⌝ }
+    ensures { λ r. ⌜ r ≡ rowOf order a ⌝ }
+{
+    let i = a as usize;
+    order.rows[i]
+}
+
+// The rows of a task's level and of its read level.
+pub struct Rows {
+    pub level: u16,
+    pub read: u16,
+}
+
+// One function for both: each that is given an order copies it.
+pub fn rows_of(order: Order, level: u16, read: u16) -> Rows
+    requires { ⌜ (level < mostLevels) × (read < mostLevels) ⌝ }
+    ensures { λ r. ⌜ (r .level ≡ rowOf order level) × (r .read ≡ rowOf order read) ⌝ }
+{
+    let i = level as usize;
+    let j = read as usize;
+    Rows {
+        level: order.rows[i],
+        read: order.rows[j],
+    }
+}
+
+// Level b stands in a row.
+pub fn in_row(row: u16, b: u16) -> bool
+    requires { ⌜ b < mostLevels ⌝ }
+    ensures { λ r. ⌜ r ≡ bit row b ⌝ }
+{
+    (row >> b) % 2 == 1
 }
 
 // Each level of the rest has its row within `set`, where those in a row found within are passed over, the highest first: on a

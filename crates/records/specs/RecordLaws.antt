@@ -238,6 +238,18 @@ module _ (size : Size) (o : Order) (bs : List ℕ) (ok : soundOf size o bs ≡ t
   kinds x =
       ⊎-elim (λ b. kind-at size o bs x (record-at x (ltb-true _ _ b))) (λ p. inl (inl (field-past size bs x 0 long (ltb-false _ _ p)))) (either (ltb x (numbersOf size)))
 
+  -- every level and read level is in the order, those of free numbers and of numbers past the end too
+  some-level : 0 < o .count
+  some-level = let h = task-facts 0 core-task .level-in in omega arith
+
+  pub level-below : (x : ℕ) → level bs x < o .count
+  level-below x =
+      ⊎-elim (⊎-elim (λ z. rw (free-fields x z 1 (omega arith)) some-level) (λ t. task-facts x t .level-in)) (λ t. object-facts x t .level-in) (kinds x)
+
+  pub read-below : (x : ℕ) → readLevel bs x < o .count
+  read-below x =
+      ⊎-elim (⊎-elim (λ z. rw (free-fields x z 2 (omega arith)) some-level) (λ t. task-facts x t .read-in)) (λ t. rw (object-facts x t .no-read) some-level) (kinds x)
+
 -- ---- stores
 
 pub field-same : (bs : List ℕ) (x f v : ℕ) → recordSize * x + f < length bs → field (setField bs x f v) x f ≡ v

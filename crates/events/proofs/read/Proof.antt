@@ -13,7 +13,9 @@ unfolding task object
 returns c = unnamed _ _ _ _ _ _ (read-verdict _ _ _ _ _) (sym (c .before .are-named .ensures) ∙ not-true _ (c .if1 .taken))
 
 read-requires : tie.Need-read-requires
-read-requires c κs = sym (c .before .are-named .ensures) ∙ not-false _ (c .if1 .left)
+read-requires c κs =
+    let pre = c .before .before .before .before .pre in
+    ((pre .2, pre .3), sym (c .before .are-named .ensures) ∙ not-false _ (c .if1 .left))
 
 read-requires-2 : tie.Need-read-requires-2
 read-requires-2 c κs =

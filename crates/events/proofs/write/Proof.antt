@@ -13,7 +13,9 @@ unfolding task object
 returns c = unnamed _ _ _ _ _ _ (write-verdict _ _ _ _ _) (sym (c .before .are-named .ensures) ∙ not-true _ (c .if1 .taken))
 
 write-requires : tie.Need-write-requires
-write-requires c κs = sym (c .before .are-named .ensures) ∙ not-false _ (c .if1 .left)
+write-requires c κs =
+    let pre = c .before .before .before .before .pre in
+    ((pre .2, pre .3), sym (c .before .are-named .ensures) ∙ not-false _ (c .if1 .left))
 
 write-requires-2 : tie.Need-write-requires-2
 write-requires-2 c κs =

@@ -12,9 +12,9 @@ use Rattle.events.proofs.judge.read.Tie as tie
 returns : tie.Need-returns
 unfolding task object
 returns c =
-    let d = c .before .before in
-    λ ws. judged-is _ _ (d .read-decided .ensures ws)
-    (λ v. rw (read-verdict, d .before .before .before .pre) (c .driven .ensures ∙ ap (driven _ true _ _) (c .before .apart .ensures ∙ ap₂ apart (d .before .below .ensures) v)))
+    let b = c .before .before in
+    λ ws. judged-is _ _ (b .before .read-decided .ensures ws)
+    (λ v. rw (read-verdict, b .before .before .before .pre .1) (c .driven .ensures ∙ ap (driven _ true _ _) (c .before .apart .ensures ∙ ap₂ apart (b .below .ensures) v)))
 
 pub read-spec : {M : Type 1} → statement M
 read-spec = tie.close (tie.spec (λ c κs. search needs) (λ c κs. search needs) (λ c κs. search needs) (λ c κs. search needs) returns)

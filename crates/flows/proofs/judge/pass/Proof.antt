@@ -11,7 +11,7 @@ returns c =
     let h = c .before .before .before in
     let n = h .before .before in
     let r = n .before .before .before in
-    let l = r .before .before .before .pre in
+    let l = r .before .before .before .pre .0 in
     judged-is _ _ (r .relay .ensures _)
     (λ v. rw pass-verdict
     (simp (
