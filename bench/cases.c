@@ -89,6 +89,58 @@ static void build_call_by_last(struct item *item, const struct plan *plan)
     request(item, TUPEHIWO_CODE_CALL, task, task, 0, 0, 0);
 }
 
+/* Of one task by another. */
+static void build_call(struct item *item, const struct plan *plan)
+{
+    struct world *w = &item->world;
+    struct tupehiwo_monitor before;
+    unsigned caller, callee;
+    fill_and_use(item, plan);
+    before = w->m;
+    do {
+        w->m = before;
+        caller = any(w, TASK);
+        callee = any(w, TASK);
+    } while (caller == callee ||
+             done(w, TUPEHIWO_CODE_CALL, caller, callee, 0, 0, 0) != TUPEHIWO_GRANTED);
+    w->m = before;
+    request(item, TUPEHIWO_CODE_CALL, caller, callee, 0, 0, 0);
+}
+
+/*
+ * What a task read of an object goes on to another, which it feeds, or what another wrote to
+ * the object goes on to the task.
+ */
+static void relay(struct item *item, const struct plan *plan, unsigned code)
+{
+    struct world *w = &item->world;
+    struct tupehiwo_monitor before;
+    unsigned reader, object, other, from, to;
+    fill_and_use(item, plan);
+    do {
+        reader = any(w, TASK);
+        object = any(w, OBJECT);
+        other = any(w, TASK);
+        from = code == TUPEHIWO_CODE_PASS ? reader : other;
+        to = code == TUPEHIWO_CODE_PASS ? other : reader;
+        connect(w, object, reader);
+        connect(w, from, code == TUPEHIWO_CODE_PASS ? to : object);
+        before = w->m;
+    } while (done(w, code, from, object, to, 0, 0) != TUPEHIWO_GRANTED);
+    w->m = before;
+    request(item, code, from, object, to, 0, 0);
+}
+
+static void build_pass(struct item *item, const struct plan *plan)
+{
+    relay(item, plan, TUPEHIWO_CODE_PASS);
+}
+
+static void build_post(struct item *item, const struct plan *plan)
+{
+    relay(item, plan, TUPEHIWO_CODE_POST);
+}
+
 /* The image's driver is the core. */
 static void build_refusal_of_last(struct item *item, const struct plan *plan)
 {
@@ -402,7 +454,10 @@ const struct bench_case cases[] = {
     {"read", build_read, FIRST_THINGS, 1},
     {"write", build_write, FIRST_THINGS, 1},
     {"invoke", build_invoke, FIRST_THINGS, 1},
+    {"call", build_call, FIRST_THINGS, 1},
     {"call_by_the_last_task", build_call_by_last, FIRST_THINGS, 1},
+    {"pass", build_pass, FIRST_THINGS, 1},
+    {"post", build_post, FIRST_THINGS, 1},
     {"delete_and_create", build_remade, FIRST_THINGS + 1, 1},
     {"delete_with_no_flows", build_delete_untied, FIRST_THINGS + 1, 0},
     {"delete_with_10_feeders_10_fed", build_delete_some, SOME + 2, 0},

@@ -8,29 +8,9 @@ use Rattle.model.specs.declared.Call.{Call}
 use Rattle.model.specs.declared.Tally.{Tally}
 use Rattle.model.specs.State.{Memory}
 use Rattle.model.specs.Events.{left}
-use Rattle.model.specs.Tallies.{Tallied, tallied, performed, loaded}
-use Rattle.model.specs.Told.{no-word, told}
-
--- what is there when a call or a load has ended: the answer, and the lent memory
-pub record End : Type 0 where
-  pub verdict : ℕ
-  pub rounds : ℕ
-  pub told-word : ℕ
-  pub bytes : List ℕ
-  pub words : List ℕ
-  pub tallies : List Tally
-
-abbrev pub endsAs : End → Tallied
-endsAs z = tallied (left (z .verdict) (z .rounds) (z .bytes) (z .words)) (z .tallies)
-
--- what the contracts say
-abbrev pub Performs : Order → Memory → List Tally → Call → End → Type 0
-Performs o m ts c z = (endsAs z ≡ performed o m ts c) × (z .told-word ≡ told c (z .verdict))
-
-abbrev pub Loads : Order → Memory → List Tally → List ℕ → End → Type 0
-Loads o m ts text z = (endsAs z ≡ loaded o m ts text) × (z .told-word ≡ no-word)
-
--- ---- the claim
+use Rattle.model.specs.Tallies.{Tallied, tallied}
+use Rattle.model.specs.Told.{told}
+use Rattle.calls.specs.Ends.{End, Performs, Loads}
 
 pub record EnginesAgree : Type 0 where
   pub calls : (o : Order) (m : Memory) (ts : List Tally) (c : Call) (table rules : End) → Performs o m ts c table → Performs o m ts c rules → table ≡ rules
@@ -38,12 +18,13 @@ pub record EnginesAgree : Type 0 where
 
 -- ---- its proof
 
-one-end : (a b : End) → endsAs a ≡ endsAs b → a .told-word ≡ b .told-word → a ≡ b
+abbrev endsAs : End → Tallied
+endsAs z = tallied (left (z .answer .verdict) (z .answer .rounds) (z .bytes) (z .words)) (z .tallies)
+
+one-end : (a b : End) → endsAs a ≡ endsAs b → a .answer .told ≡ b .answer .told → a ≡ b
 one-end a b e w =
     λ i. record {
-      verdict = e i .outcome .verdict;
-      rounds = e i .outcome .rounds;
-      told-word = w i;
+      answer = record { verdict = e i .outcome .verdict; rounds = e i .outcome .rounds; told = w i };
       bytes = e i .outcome .memory .bytes;
       words = e i .outcome .memory .words;
       tallies = e i .tallies;

@@ -1,3 +1,4 @@
 pub mod Request
 pub mod Entered
+pub mod Ends
 pub mod Engines

@@ -11,7 +11,6 @@ ghost use Rattle.model.specs.Ready.{Ready};
 ghost use Rattle.model.specs.Events.{left};
 ghost use Rattle.model.specs.Monitor as model;
 ghost use Rattle.model.specs.Monitor.{refusedUnless, started};
-ghost use Rattle.model.specs.Tallies.{tallied, performed, loaded};
 ghost use Rattle.model.specs.Told.{no-word, told};
 ghost use Rattle.model.specs.Load as loads;
 ghost use Rattle.model.specs.Load.{inTurn, whole};
@@ -20,6 +19,7 @@ ghost use Rattle.tallies.specs.Entries.{InList, Enters};
 ghost use Rattle.tallies.specs.Counts.{recordsIn, leftOver};
 ghost use Rattle.calls.specs.Request.{callOf};
 ghost use Rattle.calls.specs.Entered.{CallEntry, ToldEntry, LoadEntry, withWord};
+ghost use Rattle.calls.specs.Ends.{ended, Performs, Loads};
 use creation::create;
 use creation::create_root;
 use creation::execute;
@@ -252,9 +252,8 @@ pub fn perform(
     engine: Engine,
     call: Call,
 ) -> Answer
-    ensures { λ r. ⌜ (tallied (left (r .verdict) (r .rounds) (now (bytes .exit)) (now (words .exit))) (recordsIn (now (counts .exit))) ≡ performed order (memory (now (bytes .entry)) (now (words .entry))) (recordsIn (now (counts .entry))) call)
-        × (r .told ≡ told call (r .verdict))
-        × (leftOver (now (counts .exit)) ≡ leftOver (now (counts .entry))) ⌝ }
+    ensures { λ r. ⌜ Performs order (memory (now (bytes .entry)) (now (words .entry))) (recordsIn (now (counts .entry))) call (ended r (now (bytes .exit)) (now (words .exit)) (recordsIn (now (counts .exit)))) ⌝ }
+    ensures { λ _. ⌜ leftOver (now (counts .exit)) ≡ leftOver (now (counts .entry)) ⌝ }
 {
     let lent = tallies::records_in(counts);
     let entry = call_lent(bytes, words, lent, order, engine, call);
@@ -315,9 +314,8 @@ pub fn load_counts(
     engine: Engine,
     text: &[u8],
 ) -> Answer
-    ensures { λ r. ⌜ (tallied (left (r .verdict) (r .rounds) (now (bytes .exit)) (now (words .exit))) (recordsIn (now (counts .exit))) ≡ loaded order (memory (now (bytes .entry)) (now (words .entry))) (recordsIn (now (counts .entry))) (now (text .entry)))
-        × (r .told ≡ no-word)
-        × (leftOver (now (counts .exit)) ≡ leftOver (now (counts .entry))) ⌝ }
+    ensures { λ r. ⌜ Loads order (memory (now (bytes .entry)) (now (words .entry))) (recordsIn (now (counts .entry))) (now (text .entry)) (ended r (now (bytes .exit)) (now (words .exit)) (recordsIn (now (counts .exit)))) ⌝ }
+    ensures { λ _. ⌜ leftOver (now (counts .exit)) ≡ leftOver (now (counts .entry)) ⌝ }
 {
     let lent = tallies::records_in(counts);
     let entry = load_lent(bytes, words, lent, order, engine, text);

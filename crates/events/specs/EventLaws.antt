@@ -19,7 +19,7 @@ use Rattle.records.specs.KeepLaws.{lies-in}
 use Rattle.model.specs.Verdicts.{granted, slipped, row-number, row-driver, row-place, row-held, row-rule, row-filled, row-feeding}
 use Rattle.model.specs.State.{Memory, memory, task, object, levelOf, readLevelOf, driverOf, liesIn, marked, hasWrite}
 use Rattle.model.specs.Ready.{Ready}
-use Rattle.model.specs.Effects.{Effect, flow-if, read-access, write-access, move-to, bridge, clear, effect, effects}
+use Rattle.model.specs.Effects.{Effect, flow-if, read-access, bridge, clear, effect, effects}
 use Rattle.model.specs.Events.{Event, left, unless, firstFailing, verdictOf, outcome, feedsUnmarked, read, write, move, delete}
 use Rattle.places.specs.Places.{bytesInside}
 use Rattle.places.specs.PlaceLaws.{inside-is}

@@ -4,15 +4,13 @@ ghost use lib.Dec.{eqb};
 ghost use Rattle.rows.specs.Size.{numbers};
 ghost use Rattle.model.specs.Verdicts.{row-state};
 ghost use Rattle.model.specs.State.{memory};
-ghost use Rattle.model.specs.Events.{left};
 ghost use Rattle.model.specs.Monitor as model;
 ghost use Rattle.model.specs.Monitor.{refusedUnless, nextMarked};
-ghost use Rattle.model.specs.Tallies.{tallied, performed, loaded};
-ghost use Rattle.model.specs.Told.{no-word, told};
 ghost use Rattle.model.specs.Load as loads;
 ghost use Rattle.model.specs.Load.{layoutChecked};
 ghost use Rattle.calls.specs.Request.{callOf};
 ghost use Rattle.calls.specs.Entered.{ToldEntry, LoadEntry};
+ghost use Rattle.calls.specs.Ends.{ended, Performs, Loads};
 use calls::Request;
 use layout::Text;
 use levels::Order;
@@ -45,8 +43,7 @@ pub extern "C" fn tupehiwo_perform(
     order: Order,
     request: Request,
 ) -> Answer
-    ensures { λ r. ⌜ (tallied (left (r .verdict) (r .rounds) (now (bytes .exit)) (now (words .exit))) (now (tallies .exit)) ≡ performed order (memory (now (bytes .entry)) (now (words .entry))) (now (tallies .entry)) (callOf request))
-        × (r .told ≡ told (callOf request) (r .verdict)) ⌝ }
+    ensures { λ r. ⌜ Performs order (memory (now (bytes .entry)) (now (words .entry))) (now (tallies .entry)) (callOf request) (ended r (now (bytes .exit)) (now (words .exit)) (now (tallies .exit))) ⌝ }
 {
     let entry = request_lent(bytes, words, tallies.len(), order, request);
     tallies::enter(tallies, entry);
@@ -69,8 +66,7 @@ pub extern "C" fn tupehiwo_load(
     order: Order,
     text: &[u8],
 ) -> Answer
-    ensures { λ r. ⌜ (tallied (left (r .verdict) (r .rounds) (now (bytes .exit)) (now (words .exit))) (now (tallies .exit)) ≡ loaded order (memory (now (bytes .entry)) (now (words .entry))) (now (tallies .entry)) (now (text .entry)))
-        × (r .told ≡ no-word) ⌝ }
+    ensures { λ r. ⌜ Loads order (memory (now (bytes .entry)) (now (words .entry))) (now (tallies .entry)) (now (text .entry)) (ended r (now (bytes .exit)) (now (words .exit)) (now (tallies .exit))) ⌝ }
 {
     let entry = load_lent(bytes, words, tallies.len(), order, text);
     tallies::enter(tallies, entry);

@@ -1,11 +1,9 @@
 // Calls and loads by the plain rules, for C and Rust to link beside the monitor: the list of tallies is lent as plain numbers, three to a record.
 ghost use mathlib.Core.Path.{_≡_};
 ghost use Rattle.model.specs.State.{memory};
-ghost use Rattle.model.specs.Events.{left};
-ghost use Rattle.model.specs.Tallies.{tallied, performed, loaded};
-ghost use Rattle.model.specs.Told.{no-word, told};
 ghost use Rattle.tallies.specs.Counts.{recordsIn, leftOver};
 ghost use Rattle.calls.specs.Request.{callOf};
+ghost use Rattle.calls.specs.Ends.{ended, Performs, Loads};
 use calls::Request;
 use levels::Order;
 use model::Answer;
@@ -19,9 +17,8 @@ pub extern "C" fn tupehiwo_plain_perform(
     order: Order,
     request: Request,
 ) -> Answer
-    ensures { λ r. ⌜ (tallied (left (r .verdict) (r .rounds) (now (bytes .exit)) (now (words .exit))) (recordsIn (now (counts .exit))) ≡ performed order (memory (now (bytes .entry)) (now (words .entry))) (recordsIn (now (counts .entry))) (callOf request))
-        × (r .told ≡ told (callOf request) (r .verdict))
-        × (leftOver (now (counts .exit)) ≡ leftOver (now (counts .entry))) ⌝ }
+    ensures { λ r. ⌜ Performs order (memory (now (bytes .entry)) (now (words .entry))) (recordsIn (now (counts .entry))) (callOf request) (ended r (now (bytes .exit)) (now (words .exit)) (recordsIn (now (counts .exit)))) ⌝ }
+    ensures { λ _. ⌜ leftOver (now (counts .exit)) ≡ leftOver (now (counts .entry)) ⌝ }
 {
     let call = calls::call_of(request);
     calls::perform(bytes, words, counts, order, table::RULES, call)
@@ -36,9 +33,8 @@ pub extern "C" fn tupehiwo_plain_load(
     order: Order,
     text: &[u8],
 ) -> Answer
-    ensures { λ r. ⌜ (tallied (left (r .verdict) (r .rounds) (now (bytes .exit)) (now (words .exit))) (recordsIn (now (counts .exit))) ≡ loaded order (memory (now (bytes .entry)) (now (words .entry))) (recordsIn (now (counts .entry))) (now (text .entry)))
-        × (r .told ≡ no-word)
-        × (leftOver (now (counts .exit)) ≡ leftOver (now (counts .entry))) ⌝ }
+    ensures { λ r. ⌜ Loads order (memory (now (bytes .entry)) (now (words .entry))) (recordsIn (now (counts .entry))) (now (text .entry)) (ended r (now (bytes .exit)) (now (words .exit)) (recordsIn (now (counts .exit)))) ⌝ }
+    ensures { λ _. ⌜ leftOver (now (counts .exit)) ≡ leftOver (now (counts .entry)) ⌝ }
 {
     calls::load_counts(bytes, words, counts, order, table::RULES, text)
 }

@@ -16,9 +16,11 @@ returns c =
     let e : tie.After-enter-counts = search in
     let m = memory (s .args .bytes .now) (s .args .words .now) in
     let ts = recordsIn (s .args .counts .now) in (
-      ap (tallied _) (e .enter-counts .ensures .0)
-          ∙ loaded-is (s .args .order) m ts (s .args .text .now) _ (d .load-lent .result) (d .load-lent .ensures .0 ∙ counted-length m _ (n .records-in .ensures)) refl (d .load-lent .ensures .1),
-      d .load-lent .ensures .3,
+      (
+        ap (tallied _) (e .enter-counts .ensures .0)
+            ∙ loaded-is (s .args .order) m ts (s .args .text .now) _ (d .load-lent .result) (d .load-lent .ensures .0 ∙ counted-length m _ (n .records-in .ensures)) refl (d .load-lent .ensures .1),
+        d .load-lent .ensures .3,
+      ),
       e .enter-counts .ensures .1,
     )
 

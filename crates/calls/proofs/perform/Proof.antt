@@ -16,9 +16,11 @@ returns c =
     let e : tie.After-enter-counts = search in
     let m = memory (s .args .bytes .now) (s .args .words .now) in
     let ts = recordsIn (s .args .counts .now) in (
-      ap (tallied _) (e .enter-counts .ensures .0)
-          ∙ performed-is (s .args .order) m ts (s .args .call) _ (d .call-lent .result) (d .call-lent .ensures .0 .0 ∙ counted-length m _ (n .records-in .ensures)) refl (d .call-lent .ensures .0 .1),
-      d .call-lent .ensures .1,
+      (
+        ap (tallied _) (e .enter-counts .ensures .0)
+            ∙ performed-is (s .args .order) m ts (s .args .call) _ (d .call-lent .result) (d .call-lent .ensures .0 .0 ∙ counted-length m _ (n .records-in .ensures)) refl (d .call-lent .ensures .0 .1),
+        d .call-lent .ensures .1,
+      ),
       e .enter-counts .ensures .1,
     )
 

@@ -18,7 +18,7 @@ unfolding startedWith
 returns c =
     let p = c .before .before .before .before .before .before .before in
     let a = p .before .before .before .before .before .before .before .args in
-    answered-is (performed (a .order) (memory (a .bytes .now) (a .words .now)) (recordsIn (a .counts .now)) Start) (λ v n. Verdict v) (λ v. cond (eqb v granted) (a .order) (a .kept)) _ (p .perform .ensures .0)
+    answered-is (performed (a .order) (memory (a .bytes .now) (a .words .now)) (recordsIn (a .counts .now)) Start) (λ v n. Verdict v) (λ v. cond (eqb v granted) (a .order) (a .kept)) _ (p .perform .ensures .0 .0)
     refl (granted-order (a .order) (a .kept) (c .if1 .taken))
 
 returns-2 : tie.Need-returns-2
@@ -26,7 +26,7 @@ unfolding startedWith
 returns-2 c =
     let p = c .before .before .before .before .before .before .before in
     let a = p .before .before .before .before .before .before .before .args in
-    answered-is (performed (a .order) (memory (a .bytes .now) (a .words .now)) (recordsIn (a .counts .now)) Start) (λ v n. Verdict v) (λ v. cond (eqb v granted) (a .order) (a .kept)) _ (p .perform .ensures .0)
+    answered-is (performed (a .order) (memory (a .bytes .now) (a .words .now)) (recordsIn (a .counts .now)) Start) (λ v n. Verdict v) (λ v. cond (eqb v granted) (a .order) (a .kept)) _ (p .perform .ensures .0 .0)
     refl (refused-order (a .order) (a .kept) (c .if1 .left))
 
 pub start-spec : {M : Type 1} → statement M
