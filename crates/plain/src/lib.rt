@@ -1,10 +1,15 @@
-// Calls and loads by the plain rules, for C and Rust to link beside the monitor: the list of tallies is lent as plain numbers, three to a record.
+// Calls and loads by the plain rules, for C and Rust to link beside the monitor: the list of tallies is lent as plain numbers, three to a record. And the decision table's entries by these rules, for whoever prints the table.
 ghost use mathlib.Core.Path.{_≡_};
+ghost use Prim.Native.Nat.{_<_};
+ghost use Rattle.bits.specs.All.{one};
 ghost use Rattle.model.specs.State.{memory};
+ghost use Rattle.table.specs.Table.{ruled, entryOf};
 ghost use Rattle.tallies.specs.Counts.{recordsIn, leftOver};
 ghost use Rattle.calls.specs.Request.{callOf};
 ghost use Rattle.calls.specs.Ends.{ended, Performs, Loads};
+ghost use Rattle.plain.specs.Entry.{operationAt, entryFor};
 use calls::Request;
+use decisions::Decision;
 use levels::Order;
 use model::Answer;
 
@@ -37,4 +42,64 @@ pub extern "C" fn tupehiwo_plain_load(
     ensures { λ _. ⌜ leftOver (now (counts .exit)) ≡ leftOver (now (counts .entry)) ⌝ }
 {
     calls::load_counts(bytes, words, counts, order, table::RULES, text)
+}
+
+// ---- The decision table's entries, worked out from the rules: the table itself is not looked at.
+
+const OPERATIONS: u16 = 8;
+
+const SETTINGS: u16 = 64;
+
+// Where a number names no operation or no setting.
+const NO_ENTRY: u8 = 255;
+
+// What an operation's rule says on facts. The last is the rule of pass and of post.
+fn ruled(operation: u16, f0: bool, f1: bool, f2: bool, f3: bool, f4: bool, f5: bool) -> Decision
+    ensures { λ r. ⌜ r ≡ ruled (operationAt operation) «f0» «f1» «f2» «f3» «f4» «f5» ⌝ }
+{
+    match operation {
+        0 => decisions::read(f0, f1, f2, f3, f4, f5),
+        1 => decisions::write(f0, f1),
+        2 => decisions::move_object(f0, f1, f2),
+        3 => decisions::delete(f0, f1),
+        4 => decisions::call_task(f0, f1, f2, f3),
+        5 => decisions::invoke(f0, f1),
+        _ => decisions::relay(f0, f1, f2, f3, f4),
+    }
+}
+
+fn digit(flow: bool) -> u8
+    ensures { λ r. ⌜ (r ≡ one flow) × (r < 2) ⌝ }
+{
+    if flow { 1 } else { 0 }
+}
+
+// The number of a decision. The verdicts of the rules are all below 16.
+fn number(decision: Decision) -> u8
+    requires { ⌜ decision .verdict < 16 ⌝ }
+    ensures { λ r. ⌜ r ≡ entryOf decision ⌝ }
+{
+    decision.verdict + 16 * digit(decision.first) + 32 * digit(decision.second)
+}
+
+// The entry of a setting of an operation. Operations have their numbers by the table's order; fact i is bit i of the setting.
+#[no_mangle]
+pub extern "C" fn tupehiwo_plain_entry(operation: u16, setting: u16) -> u8
+    ensures { λ r. ⌜ r ≡ entryFor operation setting ⌝ }
+{
+    if (operation < OPERATIONS) & (setting < SETTINGS) {
+        let s = setting as u64;
+        let judged = ruled(
+            operation,
+            bits::has_bit(s, 0),
+            bits::has_bit(s, 1),
+            bits::has_bit(s, 2),
+            bits::has_bit(s, 3),
+            bits::has_bit(s, 4),
+            bits::has_bit(s, 5),
+        );
+        number(decisions::settled(judged))
+    } else {
+        NO_ENTRY
+    }
 }

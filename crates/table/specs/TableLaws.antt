@@ -84,7 +84,7 @@ unfolding unless
 low-verdict true p q = q
 low-verdict false p q = p
 
-verdicts : (op : Operation) (f0 f1 f2 f3 f4 f5 : Bool) → ruled op f0 f1 f2 f3 f4 f5 .verdict < 16
+pub verdicts : (op : Operation) (f0 f1 f2 f3 f4 f5 : Bool) → ruled op f0 f1 f2 f3 f4 f5 .verdict < 16
 unfolding ruled readDecision writeDecision moveDecision deleteDecision callDecision invokeDecision relayDecision
 verdicts Read f0 f1 f2 f3 f4 f5 = low-verdict _ (omega arith) (low-verdict _ (omega arith) (low-verdict _ (omega arith) (omega arith)))
 verdicts Write f0 f1 f2 f3 f4 f5 = low-verdict _ (omega arith) (low-verdict _ (omega arith) (omega arith))

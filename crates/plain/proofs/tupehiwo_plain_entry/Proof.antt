@@ -1,0 +1,39 @@
+use borrow.Author.Needs.{needs}
+use Rattle.decisions.specs.Decisions.{settled}
+use Rattle.table.specs.TableLaws.{verdicts}
+use Rattle.plain.specs.Entry.{entryFor}
+use Rattle.plain.proofs.tupehiwo_plain_entry.Statement.{statement}
+use Rattle.plain.proofs.tupehiwo_plain_entry.Tie as tie
+
+-- settling keeps the verdict of the rule
+number-requires : tie.Need-number-requires
+unfolding settled
+number-requires c κs = rw (c .settled .ensures, c .before .ruled .ensures) (verdicts _ _ _ _ _ _ _)
+
+returns : tie.Need-returns
+unfolding entryFor
+returns c =
+    let r = c .before .before in
+    let b = r .before in
+    simp (
+      b .before .before .before .before .before .before .if1 .taken,
+      c .number .ensures,
+      c .before .settled .ensures,
+      r .ruled .ensures,
+      b .has-bit6 .ensures,
+      b .before .has-bit5 .ensures,
+      b .before .before .has-bit4 .ensures,
+      b .before .before .before .has-bit3 .ensures,
+      b .before .before .before .before .has-bit2 .ensures,
+      b .before .before .before .before .before .has-bit .ensures,
+    )
+
+returns-2 : tie.Need-returns-2
+unfolding entryFor
+returns-2 c = simp (c .if1 .left)
+
+pub tupehiwo-plain-entry-spec : {M : Type 1} → statement M
+tupehiwo-plain-entry-spec =
+    tie.close
+    (tie.spec (λ c κs. search needs) (λ c κs. search needs) (λ c κs. search needs) (λ c κs. search needs) (λ c κs. search needs)
+    (λ c κs. search needs) (λ c κs. search needs) (λ c κs. search needs) number-requires returns returns-2)
