@@ -1,5 +1,5 @@
-//! The suite engines links libplain.a besides, from the folder that the library is in. Cargo
-//! does not see that, so the tests are built anew when something in that folder changes.
+//! The suites engines and page link libplain.a besides, from the folder that the library is in.
+//! Cargo does not see that, so the tests are built anew when something in that folder changes.
 
 use std::env;
 use std::path::PathBuf;

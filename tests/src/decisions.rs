@@ -1,7 +1,8 @@
 //! The decision table of the second paper, worked out from the rules of the first: what the
 //! level tests of eight operations come to in each setting of their yes-or-no facts. And the
-//! page that shows it, docs/DECISION-TABLE.md.
+//! page that shows such a table, docs/DECISION-TABLE.md: it is given the numbers.
 
+use std::collections::BTreeSet;
 use std::fmt::Write;
 
 use crate::model::Verdict;
@@ -197,6 +198,9 @@ const POST: Operation = Operation {
 /// In the paper's order.
 pub const OPERATIONS: [Operation; 8] = [READ, WRITE, MOVE, DELETE, CALL, INVOKE, PASS, POST];
 
+/// The numbers of a table: of each operation, one for each setting.
+pub type Numbers = [[u8; SETTINGS]; OPERATIONS.len()];
+
 // ------------------------------------------------------------------- the rules
 
 fn read(
@@ -270,8 +274,11 @@ const BEGINNING: &str = "\
 # The decision table
 
 For eight operations a call looks up in a table what the level tests come to. The table is in \
-`crates/table/src/lib.rt`; this page shows it. `tests/src/decisions.rs` prints the page from the \
-rules of document 01, and a test holds page and source against those rules.
+`crates/table/src/lib.rt`; this page shows it. Its numbers are printed from `tupehiwo_plain_entry` \
+in `crates/plain/src/lib.rt`, which works them out from the plain rules and is proved to give what \
+has to stand there (`entryFor` in `crates/plain/specs/Entry.antt`). Tests hold the page to that \
+function (`tests/suite/page.rs`), and function and source to the rules of document 01, written \
+apart in `tests/src/decisions.rs`.
 
 ## What an entry says
 
@@ -310,43 +317,41 @@ recorded.
 nothing up. A load looks up for each of its writes.
 ";
 
-/// What docs/DECISION-TABLE.md has to be.
-pub fn page() -> String {
+/// What docs/DECISION-TABLE.md has to be where the table has these numbers.
+pub fn page(numbers: &Numbers) -> String {
     let mut page = BEGINNING.to_string();
-    page += &numbers_explained();
+    page += &numbers_explained(numbers);
     page += FINDING;
-    page += &example();
+    page += &example(numbers);
     page += APART;
-    OPERATIONS.iter().for_each(|operation| page += &section(operation));
+    for (operation, numbers) in OPERATIONS.iter().zip(numbers) {
+        page += &section(operation, numbers);
+    }
     page
 }
 
 /// Each number that occurs, and what it says.
-fn numbers_explained() -> String {
-    let settings = |operation| (0..SETTINGS).map(move |setting| (operation, setting));
-    let entries = OPERATIONS.iter().flat_map(settings);
-    let mut entries: Vec<Entry> = entries.map(|(operation, s)| operation.entry(s)).collect();
-    entries.sort_by_key(|entry| entry.number());
-    entries.dedup();
+fn numbers_explained(numbers: &Numbers) -> String {
+    let occurring: BTreeSet<u8> = numbers.iter().flatten().copied().collect();
     let mut table = "| entry | verdict | flows recorded |\n|---|---|---|\n".to_string();
-    for entry in entries {
-        let flows = match entry.flows {
-            [false, false] => "none",
-            [true, false] => "the first",
-            [false, true] => "the second",
-            [true, true] => "both",
+    for number in occurring {
+        let flows = match number / 16 {
+            0 => "none",
+            1 => "the first",
+            2 => "the second",
+            3 => "both",
+            _ => panic!("{number} is no entry"),
         };
-        let verdict = VERDICTS[entry.verdict as usize];
-        let verdict = format!("{} {verdict}", entry.verdict as u8);
-        add_row(&mut table, &[entry.number().to_string(), verdict, flows.into()]);
+        let verdict = number % 16;
+        let verdict = format!("{verdict} {}", VERDICTS[usize::from(verdict)]);
+        add_row(&mut table, &[number.to_string(), verdict, flows.into()]);
     }
     table
 }
 
 /// The paper's trial P8.
-fn example() -> String {
-    let held = [true, true, false, false, true, false];
-    let number = READ.entry(setting_of(held)).number();
+fn example([reads, ..]: &Numbers) -> String {
+    let number = reads[setting_of([true, true, false, false, true, false])];
     format!(
         "For instance, a task at 1 with read level 1 reads an object at 2 through a marked driver \
          at 3, under the order Q of document 01. Of the facts of a read, 0, 1 and 4 hold. In \
@@ -355,7 +360,7 @@ fn example() -> String {
     )
 }
 
-fn section(operation: &Operation) -> String {
+fn section(operation: &Operation, numbers: &[u8; SETTINGS]) -> String {
     let Operation { name, deed, facts, apart, .. } = operation;
     let mut section = format!("\n## {}\n\n{deed}", capital(name));
     if *apart {
@@ -366,7 +371,7 @@ fn section(operation: &Operation) -> String {
         add_row(&mut section, &[place.to_string(), signs.to_string(), words.to_string()]);
     }
     section += &format!("\n{}{}\n\n", flows_of(operation), unused(facts.len()));
-    section + &grid(operation)
+    section + &grid(numbers)
 }
 
 /// Why rows or columns are alike.
@@ -390,12 +395,12 @@ fn flows_of(operation: &Operation) -> String {
 }
 
 /// The entries, under and beside the facts that hold.
-fn grid(operation: &Operation) -> String {
+fn grid(numbers: &[u8; SETTINGS]) -> String {
     let columns = (0..SIDE).map(|column| held(column, 0));
     let mut grid = String::new();
     add_row(&mut grid, &["facts that hold".into()].into_iter().chain(columns).collect::<Vec<_>>());
     grid += &format!("{}|\n", "|---".repeat(1 + SIDE));
-    for (row, numbers) in operation.numbers().iter().enumerate() {
+    for (row, numbers) in numbers.chunks(SIDE).enumerate() {
         let cells = numbers.iter().map(u8::to_string);
         let heading = format!("**{}**", held(row, 3));
         add_row(&mut grid, &[heading].into_iter().chain(cells).collect::<Vec<_>>());

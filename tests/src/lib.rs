@@ -35,6 +35,7 @@ pub mod texts;
 pub mod worlds;
 
 use std::env;
+use std::fs;
 use std::path::{Path, PathBuf};
 
 use tupehiwo::ffi::Request;
@@ -47,11 +48,21 @@ pub fn request(code: u16, arguments: &[u16]) -> Request {
     Request { code, a, b, c, d, e }
 }
 
+/// A file of the repository.
+pub fn in_repository(name: &str) -> PathBuf {
+    Path::new(env!("CARGO_MANIFEST_DIR")).join("..").join(name)
+}
+
+/// What it has.
+pub fn text_of(name: &str) -> String {
+    fs::read_to_string(in_repository(name)).unwrap_or_else(|fault| panic!("{name}: {fault}"))
+}
+
 /// The script program: that which TUPEHIWO_TRAIL names, else the one in target/bin
 /// of the repository. If it is missing, that is a failure.
 pub fn trail() -> PathBuf {
     let name = "TUPEHIWO_TRAIL";
-    let usual = || Path::new(env!("CARGO_MANIFEST_DIR")).join("../target/bin/trail");
+    let usual = || in_repository("target/bin/trail");
     let program = env::var_os(name).map_or_else(usual, PathBuf::from);
     assert!(program.is_file(), "{} is missing ({name} may name another)", program.display());
     program

@@ -1,53 +1,20 @@
-//! The decision table: what the rules say, the page in docs/, the numbers in the source, and
-//! what the library does in each setting that some order allows.
-//!
-//! The page is printed anew by the test that is left out otherwise:
-//!
-//!     cd tests && cargo test --release --test table -- --ignored
+//! The decision table: what the rules say, the numbers in the source, and what the library does
+//! in each setting that some order allows.
 
 use std::collections::BTreeSet;
-use std::fs;
-use std::path::{Path, PathBuf};
 
 use tupehiwo::ffi::code;
 use tupehiwo_tests::cast::Cast;
 use tupehiwo_tests::compare::Pair;
 use tupehiwo_tests::decisions::{
-    Entry, Facts, OPERATIONS, Operation, SETTINGS, SIDE, facts_of, page, setting_of,
+    Entry, Facts, OPERATIONS, Operation, SETTINGS, SIDE, facts_of, setting_of,
 };
 use tupehiwo_tests::model::Verdict;
 use tupehiwo_tests::settings::{CODES, Met};
 use tupehiwo_tests::stages::{call, orders, stages};
+use tupehiwo_tests::text_of;
 
-const PAGE: &str = "docs/DECISION-TABLE.md";
 const SOURCE: &str = "crates/table/src/lib.rt";
-
-fn in_repository(name: &str) -> PathBuf {
-    Path::new(env!("CARGO_MANIFEST_DIR")).join("..").join(name)
-}
-
-fn text_of(name: &str) -> String {
-    fs::read_to_string(in_repository(name)).unwrap_or_else(|fault| panic!("{name}: {fault}"))
-}
-
-// ---------------------------------------------------------------------- the page
-
-#[test]
-fn the_page_shows_the_table() {
-    let (shown, expected) = (text_of(PAGE), page());
-    let unlike = shown.lines().zip(expected.lines()).find(|(shown, line)| shown != line);
-    assert!(
-        shown == expected,
-        "{PAGE} is not as the rules have it: {unlike:?}\n\
-         'cd tests && cargo test --release --test table -- --ignored' prints it anew"
-    );
-}
-
-#[test]
-#[ignore = "writes the page"]
-fn print_the_page() {
-    fs::write(in_repository(PAGE), page()).expect("the page can be written");
-}
 
 // -------------------------------------------------------------------- the source
 
