@@ -3,15 +3,16 @@ ghost use mathlib.Core.Path.{_≡_};
 ghost use Prim.Native.Nat.{_<_};
 ghost use Rattle.bits.specs.All.{one};
 ghost use Rattle.model.specs.State.{memory};
-ghost use Rattle.table.specs.Table.{ruled, entryOf};
+ghost use Rattle.table.specs.Table.{entryOf, operationAt};
 ghost use Rattle.tallies.specs.Counts.{recordsIn, leftOver};
 ghost use Rattle.calls.specs.Request.{callOf};
 ghost use Rattle.calls.specs.Ends.{ended, Performs, Loads};
-ghost use Rattle.plain.specs.Entry.{operationAt, entryFor};
+ghost use Rattle.plain.specs.Entry.{entryFor};
 use calls::Request;
 use decisions::Decision;
 use levels::Order;
 use model::Answer;
+use table::Operation;
 
 // A whole call.
 #[no_mangle]
@@ -53,18 +54,19 @@ const SETTINGS: u16 = 64;
 // Where a number names no operation or no setting.
 const NO_ENTRY: u8 = 255;
 
-// What an operation's rule says on facts. The last is the rule of pass and of post.
-fn ruled(operation: u16, f0: bool, f1: bool, f2: bool, f3: bool, f4: bool, f5: bool) -> Decision
-    ensures { λ r. ⌜ r ≡ ruled (operationAt operation) «f0» «f1» «f2» «f3» «f4» «f5» ⌝ }
+// The operation of a number, in the table's order; past them it is the last.
+fn operation_at(n: u16) -> Operation
+    ensures { λ r. ⌜ r ≡ operationAt n ⌝ }
 {
-    match operation {
-        0 => decisions::read(f0, f1, f2, f3, f4, f5),
-        1 => decisions::write(f0, f1),
-        2 => decisions::move_object(f0, f1, f2),
-        3 => decisions::delete(f0, f1),
-        4 => decisions::call_task(f0, f1, f2, f3),
-        5 => decisions::invoke(f0, f1),
-        _ => decisions::relay(f0, f1, f2, f3, f4),
+    match n {
+        0 => Operation::Read,
+        1 => Operation::Write,
+        2 => Operation::Move,
+        3 => Operation::Delete,
+        4 => Operation::Call,
+        5 => Operation::Invoke,
+        6 => Operation::Pass,
+        _ => Operation::Post,
     }
 }
 
@@ -89,8 +91,8 @@ pub extern "C" fn tupehiwo_plain_entry(operation: u16, setting: u16) -> u8
 {
     if (operation < OPERATIONS) & (setting < SETTINGS) {
         let s = setting as u64;
-        let judged = ruled(
-            operation,
+        let judged = table::by_rules(
+            operation_at(operation),
             bits::has_bit(s, 0),
             bits::has_bit(s, 1),
             bits::has_bit(s, 2),
@@ -98,7 +100,7 @@ pub extern "C" fn tupehiwo_plain_entry(operation: u16, setting: u16) -> u8
             bits::has_bit(s, 4),
             bits::has_bit(s, 5),
         );
-        number(decisions::settled(judged))
+        number(judged)
     } else {
         NO_ENTRY
     }

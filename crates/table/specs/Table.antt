@@ -1,7 +1,7 @@
 -- The decision table of document 02: eight operations times 64 settings of six yes-or-no facts, and what each entry has to be.
 -- Assumes nothing.
 use mathlib.Core.Bool.{Bool, _&&_}
-use mathlib.Core.List.{List, []}
+use mathlib.Core.List.{List, [], _∷_}
 use Prim.Native.Nat.{ℕ, _+_, _*_, _/_, _%_, _^_}
 use lib.Dec.{eqb}
 use lib.ListN.{getD}
@@ -15,7 +15,7 @@ use Rattle.table.specs.declared.Operation.the-variants.{Read, Write, Mov
 -- ---- decisions
 
 -- the plain rule of each operation on its facts, fact 0 first; it does not look at those past its own
-unfoldable pub ruled : Operation → Bool → Bool → Bool → Bool → Bool → Bool → Decision
+abbrev pub ruled : Operation → Bool → Bool → Bool → Bool → Bool → Bool → Decision
 ruled Read f0 f1 f2 f3 f4 f5 = readDecision f0 f1 f2 f3 f4 f5
 ruled Write f0 f1 f2 f3 f4 f5 = writeDecision f0 f1
 ruled Move f0 f1 f2 f3 f4 f5 = moveDecision f0 f1 f2
@@ -62,10 +62,27 @@ decisionOf n = record { verdict = n % 16; first = bit n 4; second = bit n 5 }
 abbrev pub entryAt : Operation → ℕ → ℕ
 entryAt op s = entryOf (decided op (bit s 0) (bit s 1) (bit s 2) (bit s 3) (bit s 4) (bit s 5))
 
--- what stands for it in an operation's part of the table, eight rows of eight: row s / 8, column s % 8
-abbrev pub entryIn : List (List ℕ) → ℕ → ℕ
-entryIn rows s = getD (getD rows (s / 8) []) (s % 8) 0
+-- ---- the table: eight operations times 64 settings
 
--- the fact about the table, for each operation's part: every entry is the number of the plain decision on its facts, and facts past the operation's own make no difference
-unfoldable pub filled : Operation → List (List ℕ) → Bool
-filled op rows = allB settings (λ s. eqb (entryIn rows s) (entryAt op s) && eqb (entryIn rows s) (entryIn rows (s % 2 ^ factsOf op)))
+-- the numbers of each operation, 64 in eight rows of eight
+abbrev pub Entries : Type 0
+Entries = List (List (List ℕ))
+
+abbrev pub operations : ℕ
+operations = 8
+
+-- whose numbers stand at each place
+abbrev pub operationAt : ℕ → Operation
+operationAt k = getD (Read ∷ Write ∷ Move ∷ Delete ∷ Call ∷ Invoke ∷ Pass ∷ Post ∷ []) k Post
+
+-- what stands there for a setting: row s / 8, column s % 8
+abbrev pub entryIn : Entries → ℕ → ℕ → ℕ
+entryIn table k s = getD (getD (getD table k []) (s / 8) []) (s % 8) 0
+
+-- that this is right: it is the number of the plain decision on its facts, and facts past the operation's own make no difference
+abbrev pub right : Entries → ℕ → ℕ → Bool
+right table k s = eqb (entryIn table k s) (entryAt (operationAt k) s) && eqb (entryIn table k s) (entryIn table k (s % 2 ^ factsOf (operationAt k)))
+
+-- the one fact about the whole table: every entry is right
+unfoldable pub filled : Entries → Bool
+filled table = allB operations (λ k. allB settings (right table k))

@@ -1,6 +1,6 @@
 -- Laws of the table: an entry is found by its setting and says its decision.
 -- Assumes nothing.
-use mathlib.Core.Path.{_≡_, refl, ap, _∙_}
+use mathlib.Core.Path.{_≡_, refl, ap, ap₂, _∙_}
 use mathlib.Core.Bool.{Bool, true, false, not, _&&_}
 use mathlib.Core.List.{List, []}
 use Prim.Native.Nat.{ℕ, suc, _+_, _*_, _/_, _%_, _^_, _<_}
@@ -15,7 +15,7 @@ use Rattle.bits.specs.BitLaws.{bit-low, bit-half}
 use Rattle.model.specs.Events.{unless}
 use Rattle.decisions.specs.declared.Decision.{Decision}
 use Rattle.decisions.specs.Decisions.{settled, readDecision, writeDecision, moveDecision, deleteDecision, callDecision, invokeDecision, relayDecision}
-use Rattle.table.specs.Table.{settings, setting, ruled, decided, entryAt, entryOf, decisionOf, factsOf, entryIn, filled}
+use Rattle.table.specs.Table.{settings, setting, ruled, decided, entryAt, entryOf, decisionOf, factsOf, Entries, operations, operationAt, entryIn, right, filled}
 use Rattle.table.specs.declared.Operation.{Operation}
 use Rattle.table.specs.declared.Operation.the-variants.{Read, Write, Move, Delete, Call, Invoke, Pass, Post}
 
@@ -85,7 +85,7 @@ low-verdict true p q = q
 low-verdict false p q = p
 
 pub verdicts : (op : Operation) (f0 f1 f2 f3 f4 f5 : Bool) → ruled op f0 f1 f2 f3 f4 f5 .verdict < 16
-unfolding ruled readDecision writeDecision moveDecision deleteDecision callDecision invokeDecision relayDecision
+unfolding readDecision writeDecision moveDecision deleteDecision callDecision invokeDecision relayDecision
 verdicts Read f0 f1 f2 f3 f4 f5 = low-verdict _ (omega arith) (low-verdict _ (omega arith) (low-verdict _ (omega arith) (omega arith)))
 verdicts Write f0 f1 f2 f3 f4 f5 = low-verdict _ (omega arith) (low-verdict _ (omega arith) (omega arith))
 verdicts Move f0 f1 f2 f3 f4 f5 = low-verdict _ (omega arith) (low-verdict _ (omega arith) (low-verdict _ (omega arith) (omega arith)))
@@ -106,41 +106,43 @@ pub tested : (b : Bool) → T b → b ≡ true
 tested true t = refl
 tested false t = absurd t
 
-module _ (op : Operation) (rows : List (List ℕ)) (all : filled op rows ≡ true) where
-  each : (s : ℕ) → s < settings → (eqb (entryIn rows s) (entryAt op s) && eqb (entryIn rows s) (entryIn rows (s % 2 ^ factsOf op))) ≡ true
+module _ (table : Entries) (all : filled table ≡ true) {k : ℕ} (h : k < operations) {s : ℕ} (i : s < settings) where
+  each : right table k s ≡ true
   unfolding filled
-  each s h = all-at settings (λ t. eqb (entryIn rows t) (entryAt op t) && eqb (entryIn rows t) (entryIn rows (t % 2 ^ factsOf op))) all s h
+  each = all-at settings (right table k) (all-at operations (λ n. allB settings (right table n)) all k h) s i
 
   -- what stands for a setting is what has to
-  pub stands : (s : ℕ) → s < settings → entryIn rows s ≡ entryAt op s
-  stands s h = eqb-true _ _ (and-l _ _ (each s h))
+  pub stands : entryIn table k s ≡ entryAt (operationAt k) s
+  stands = eqb-true _ _ (and-l _ _ each)
 
   -- unused facts make no difference
-  pub unused : (s : ℕ) → s < settings → entryIn rows s ≡ entryIn rows (s % 2 ^ factsOf op)
-  unused s h = eqb-true _ _ (and-r (eqb (entryIn rows s) (entryAt op s)) _ (each s h))
+  pub unused : entryIn table k s ≡ entryIn table k (s % 2 ^ factsOf (operationAt k))
+  unused = eqb-true _ _ (and-r (eqb (entryIn table k s) (entryAt (operationAt k) s)) _ each)
 
--- the law of the lookup: the entry of a setting says the plain decision on its facts
-pub looked-up : (op : Operation) (f0 f1 f2 f3 f4 f5 : Bool) → decisionOf (entryAt op (setting f0 f1 f2 f3 f4 f5)) ≡ decided op f0 f1 f2 f3 f4 f5
-looked-up op f0 f1 f2 f3 f4 f5 = ap decisionOf (entry-of op f0 f1 f2 f3 f4 f5) ∙ says op f0 f1 f2 f3 f4 f5
-
--- ---- at most three facts
+-- the law of the lookup: in a table that is filled, the entry of an operation and a setting says the plain decision on the facts
+pub looked-up : (table : Entries) → filled table ≡ true → (op : Operation) {k : ℕ} → (operationAt k ≡ op) × (k < operations)
+    → (f0 f1 f2 f3 f4 f5 : Bool) {s : ℕ} → (s ≡ setting f0 f1 f2 f3 f4 f5) × (s < settings) → decisionOf (entryIn table k s) ≡ decided op f0 f1 f2 f3 f4 f5
+looked-up table all op (o, h) f0 f1 f2 f3 f4 f5 (e, i) =
+    ap decisionOf (stands table all h i ∙ ap₂ entryAt o e ∙ entry-of op f0 f1 f2 f3 f4 f5) ∙ says op f0 f1 f2 f3 f4 f5
 
 one-small : (b : Bool) → one b < 2
 one-small true = omega arith
 one-small false = omega arith
 
-pub of-few : (op : Operation) (rows : List (List ℕ)) → filled op rows ≡ true → (f0 f1 f2 : Bool)
-    → decisionOf (getD (getD rows 0 []) (one f0 + 2 * (one f1 + 2 * one f2)) 0) ≡ decided op f0 f1 f2 false false false
-of-few op rows all f0 f1 f2 =
-    let e : one f0 + 2 * (one f1 + 2 * one f2) ≡ setting f0 f1 f2 false false false % 8 = omega (arith, one-small f0, one-small f1, one-small f2) in
-    let q : setting f0 f1 f2 false false false / 8 ≡ 0 = omega (arith, one-small f0, one-small f1, one-small f2) in
-    let h : setting f0 f1 f2 false false false < settings = omega (arith, one-small f0, one-small f1, one-small f2) in
-    let r : getD (getD rows 0 []) (one f0 + 2 * (one f1 + 2 * one f2)) 0 ≡ entryIn rows (setting f0 f1 f2 false false false) = rw (e, q) in
-    ap decisionOf (r ∙ stands op rows all _ h) ∙ looked-up op f0 f1 f2 false false false
+-- the same for at most three facts: their entries stand in the first row
+pub looked-up-few : (table : Entries) → filled table ≡ true → (op : Operation) {k : ℕ} → (operationAt k ≡ op) × (k < operations)
+    → (f0 f1 f2 : Bool) → decisionOf (getD (getD (getD table k []) 0 []) (one f0 + 2 * (one f1 + 2 * one f2)) 0) ≡ decided op f0 f1 f2 false false false
+looked-up-few table all op {k} at f0 f1 f2 =
+    let s = setting f0 f1 f2 false false false in
+    let row : s / 8 ≡ 0 = omega (arith, one-small f0, one-small f1, one-small f2) in
+    let column : one f0 + 2 * (one f1 + 2 * one f2) ≡ s % 8 = omega (arith, one-small f0, one-small f1, one-small f2) in
+    let h : s < settings = omega (arith, one-small f0, one-small f1, one-small f2) in
+    let e : getD (getD (getD table k []) 0 []) (one f0 + 2 * (one f1 + 2 * one f2)) 0 ≡ entryIn table k s = rw (column, row) in
+    ap decisionOf e ∙ looked-up table all op at f0 f1 f2 false false false (refl, h)
 
 -- each fact that an operation has makes a difference somewhere: some entry is not that of its setting without the fact
 pub used : (op : Operation) → allB (factsOf op) (λ i. anyB settings (λ s. not (eqb (entryAt op s) (entryAt op (s % 2 ^ i + 2 ^ suc i * (s / 2 ^ suc i)))))) ≡ true
-unfolding allB anyB bit unless settled ruled factsOf readDecision writeDecision moveDecision deleteDecision callDecision invokeDecision relayDecision
+unfolding allB anyB bit unless settled factsOf readDecision writeDecision moveDecision deleteDecision callDecision invokeDecision relayDecision
 used Read = refl
 used Write = refl
 used Move = refl

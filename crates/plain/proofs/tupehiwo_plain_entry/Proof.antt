@@ -8,24 +8,24 @@ use Rattle.plain.proofs.tupehiwo_plain_entry.Tie as tie
 -- settling keeps the verdict of the rule
 number-requires : tie.Need-number-requires
 unfolding settled
-number-requires c κs = rw (c .settled .ensures, c .before .ruled .ensures) (verdicts _ _ _ _ _ _ _)
+number-requires c κs = rw (c .by-rules .ensures) (verdicts _ _ _ _ _ _ _)
 
 returns : tie.Need-returns
 unfolding entryFor
 returns c =
-    let r = c .before .before in
+    let r = c .before in
     let b = r .before in
     simp (
-      b .before .before .before .before .before .before .if1 .taken,
+      b .before .before .before .before .before .before .before .if1 .taken,
       c .number .ensures,
-      c .before .settled .ensures,
-      r .ruled .ensures,
+      r .by-rules .ensures,
       b .has-bit6 .ensures,
       b .before .has-bit5 .ensures,
       b .before .before .has-bit4 .ensures,
       b .before .before .before .has-bit3 .ensures,
       b .before .before .before .before .has-bit2 .ensures,
       b .before .before .before .before .before .has-bit .ensures,
+      b .before .before .before .before .before .before .operation-at .ensures,
     )
 
 returns-2 : tie.Need-returns-2
