@@ -14,8 +14,18 @@ last-one n h = let e : n ≡ suc (suc (suc (suc (suc (suc (suc (n - 7))))))) = o
     go zero = refl
     go (suc k) = refl
 
+from-none : (n : ℕ) → 0 ≤ n
+from-none n = omega arith
+
+past : {n k : ℕ} → k ≤ n → (n ≡ k → ⊥) → suc k ≤ n
+past h d = omega arith
+
+-- a number that is none of the first seven
 returns-8 : tie.Need-returns-8
-returns-8 c = sym (last-one (c .before .args .n) (omega arith))
+returns-8 c =
+    let r = c .match .rest in
+    let three = past (past (past (from-none _) (r .0 .0 .0 .0 .0 .0 .1)) (r .0 .0 .0 .0 .0 .1)) (r .0 .0 .0 .0 .1) in
+    sym (last-one _ (past (past (past (past three (r .0 .0 .0 .1)) (r .0 .0 .1)) (r .0 .1)) (r .1)))
 
 pub operation-at-spec : {M : Type 1} → statement M
 operation-at-spec =

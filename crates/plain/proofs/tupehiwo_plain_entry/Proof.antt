@@ -8,7 +8,17 @@ use Rattle.plain.proofs.tupehiwo_plain_entry.Tie as tie
 -- settling keeps the verdict of the rule
 number-requires : tie.Need-number-requires
 unfolding settled
-number-requires c κs = rw (c .by-rules .ensures) (verdicts _ _ _ _ _ _ _)
+number-requires c κs =
+    let b = c .before in
+    rw (c .by-rules .ensures)
+    (verdicts
+    (b .before .before .before .before .before .before .operation-at .result)
+    (b .before .before .before .before .before .has-bit .result)
+    (b .before .before .before .before .has-bit2 .result)
+    (b .before .before .before .has-bit3 .result)
+    (b .before .before .has-bit4 .result)
+    (b .before .has-bit5 .result)
+    (b .has-bit6 .result))
 
 returns : tie.Need-returns
 unfolding entryFor
