@@ -273,12 +273,13 @@ fn relay([level_object, read_object, level_driver, read_driver, marked, ..]: Fac
 const BEGINNING: &str = "\
 # The decision table
 
-For eight operations a call looks up in a table what the level tests come to. The table is in \
-`crates/table/src/lib.rt`; this page shows it. Its numbers are printed from `tupehiwo_plain_entry` \
-in `crates/plain/src/lib.rt`, which works them out from the plain rules and is proved to give what \
-has to stand there (`entryFor` in `crates/plain/specs/Entry.antt`). Tests hold the page to that \
-function (`tests/suite/page.rs`), and function and source to the rules of document 01, written \
-apart in `tests/src/decisions.rs`.
+For eight operations a call looks up in a table what the level tests come to. The table is one \
+constant of 512 numbers, `ENTRIES` in `crates/table/src/lib.rt`, and that every entry is right is \
+proved as one fact about it, `filled` in `crates/table/specs/Table.antt`. This page shows it. Its \
+numbers are printed from `tupehiwo_plain_entry` in `crates/plain/src/lib.rt`, which works them out \
+from the plain rules and is proved to give what has to stand there (`entryFor` in \
+`crates/plain/specs/Entry.antt`). Tests hold the page to that function (`tests/suite/page.rs`), and \
+function and source to the rules of document 01, written apart in `tests/src/decisions.rs`.
 
 ## What an entry says
 
@@ -419,7 +420,8 @@ fn add_row(table: &mut String, cells: &[String]) {
     writeln!(table, "| {} |", cells.join(" | ")).expect("a text takes what is written");
 }
 
-fn capital(name: &str) -> String {
+/// A name as a heading or the source has it.
+pub fn capital(name: &str) -> String {
     let (first, rest) = name.split_at(1);
     first.to_uppercase() + rest
 }

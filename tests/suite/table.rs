@@ -7,7 +7,7 @@ use tupehiwo::ffi::code;
 use tupehiwo_tests::cast::Cast;
 use tupehiwo_tests::compare::Pair;
 use tupehiwo_tests::decisions::{
-    Entry, Facts, OPERATIONS, Operation, SETTINGS, SIDE, facts_of, setting_of,
+    Entry, Facts, Flow, OPERATIONS, Operation, SETTINGS, SIDE, capital, facts_of, setting_of,
 };
 use tupehiwo_tests::model::Verdict;
 use tupehiwo_tests::settings::{CODES, Met};
@@ -18,71 +18,146 @@ const SOURCE: &str = "crates/table/src/lib.rt";
 
 // -------------------------------------------------------------------- the source
 
-/// The type of each constant, and how its numbers begin.
-const TYPE: &str = ": [[u8; 8]; 8] = [";
+/// The type of the table, how it begins and how it ends.
+const TYPE: &str = "type Entries = [[[u8; 8]; 8]; 8];\n";
+const BEGINNING: &str = "const ENTRIES: Entries = [\n";
+const END: &str = "\n];\n";
 
-/// The constants of a source that are tables, in their order: names and numbers.
-fn tables_in(source: &str) -> Vec<(String, Vec<Vec<u8>>)> {
-    let uncommented = source.lines().map(|line| line.split("//").next().unwrap_or(""));
-    let bare = uncommented.collect::<Vec<_>>().join("\n");
-    let parts: Vec<&str> = bare.split(TYPE).collect();
-    let named = parts.windows(2).map(|pair| (name_at_end(pair[0]), rows_at_begin(pair[1])));
-    named.collect()
+/// An operation's part of the table: what the comment above it says, and the numbers.
+#[derive(Clone, Debug, PartialEq)]
+struct Part {
+    name: String,
+    facts_and_flows: String,
+    rows: Vec<Vec<u8>>,
 }
 
-fn name_at_end(text: &str) -> String {
-    let (_, name) = text.rsplit_once("const ").expect("a table is a constant");
-    name.to_string()
+impl Part {
+    /// Under a comment such as "Call, of b by a: L(a) ≤ L(b), ..": the name ends at the comma.
+    fn under(comment: &str) -> Part {
+        let (subject, facts_and_flows) = comment.split_once(": ").unwrap_or((comment, ""));
+        let name = subject.split(',').next().unwrap_or("").to_string();
+        Part { name, facts_and_flows: facts_and_flows.to_string(), rows: Vec::new() }
+    }
+
+    /// As the rules have it.
+    fn of(operation: &Operation) -> Part {
+        let facts: Vec<&str> = operation.facts.iter().map(|(signs, _)| *signs).collect();
+        let flow = |(from, to): Flow| format!("{from} to {to}");
+        let flows = match operation.flows {
+            (first, Some(second)) => format!("Flows: {}, {}.", flow(first), flow(second)),
+            (only, None) => format!("One flow: {}.", flow(only)),
+        };
+        Part {
+            name: capital(operation.name),
+            facts_and_flows: format!("{}. {flows}", facts.join(", ")),
+            rows: operation.numbers().map(|row| row.to_vec()).to_vec(),
+        }
+    }
+
+    fn as_source(&self) -> String {
+        let words = |row: &Vec<u8>| row.iter().map(u8::to_string).collect::<Vec<_>>().join(", ");
+        let rows = self.rows.iter().map(|row| format!("        [{}],\n", words(row)));
+        let rows: String = rows.collect();
+        format!("    // {}: {}\n    [\n{rows}    ],\n", self.name, self.facts_and_flows)
+    }
 }
 
-/// Rows in brackets, each of numbers, up to the bracket that closes all.
-fn rows_at_begin(text: &str) -> Vec<Vec<u8>> {
-    let (rows, _) = text.split_once("];").expect("a table has an end");
-    let rows = rows.split('[').skip(1).map(|row| row.trim_end_matches([']', ',', '\n', ' ']));
-    let number = |word: &str| word.trim().parse().unwrap_or_else(|_| panic!("no number: {word}"));
-    let numbers =
-        |row: &str| row.split(',').filter(|word| !word.trim().is_empty()).map(number).collect();
-    rows.map(numbers).collect()
+fn as_source(parts: &[Part]) -> String {
+    let parts: String = parts.iter().map(Part::as_source).collect();
+    format!("{TYPE}\n{BEGINNING}{parts}];\n")
 }
 
-/// A table as the source has to have it.
-fn as_source(operation: &Operation) -> String {
-    let row =
-        |row: &[u8; SIDE]| format!("    [{}],\n", row.map(|number| number.to_string()).join(", "));
-    let rows: String = operation.numbers().iter().map(row).collect();
-    format!("const {}{TYPE}\n{rows}];\n", operation.name.to_uppercase())
+/// The parts of the one table of a source, in their order.
+fn parts_in(source: &str) -> Vec<Part> {
+    assert!(source.contains(TYPE), "no '{TYPE}'");
+    let pieces: Vec<&str> = source.split(BEGINNING).collect();
+    let [_, rest] = pieces[..] else { panic!("not one '{BEGINNING}'") };
+    let (table, _) = rest.split_once(END).expect("the table has an end");
+    let mut parts: Vec<Part> = Vec::new();
+    for line in table.lines().map(str::trim).filter(|line| !["[", "],"].contains(line)) {
+        if let Some(comment) = line.strip_prefix("// ") {
+            parts.push(Part::under(comment));
+        } else {
+            let part = parts.last_mut().expect("a row stands under a comment");
+            part.rows.push(row_in(line));
+        }
+    }
+    parts
+}
+
+/// A row in brackets, with the comma after it.
+fn row_in(line: &str) -> Vec<u8> {
+    let row = line.strip_prefix('[').and_then(|rest| rest.strip_suffix("],"));
+    let number = |word: &str| word.parse().unwrap_or_else(|_| panic!("no number: {word}"));
+    row.unwrap_or_else(|| panic!("no row: {line}")).split(", ").map(number).collect()
+}
+
+/// Where the code of a source looks each operation's part up.
+fn places_in(source: &str) -> Vec<(String, usize)> {
+    let place = |line: &str| {
+        let (name, place) = line.trim().strip_prefix("Operation::")?.split_once(" => ")?;
+        Some((name.to_string(), place.strip_suffix(',')?.parse().ok()?))
+    };
+    source.lines().filter_map(place).collect()
 }
 
 #[test]
 fn the_source_has_the_table() {
-    let wanted: String = OPERATIONS.iter().map(as_source).collect();
-    let rows = |operation: &Operation| operation.numbers().map(|row| row.to_vec()).to_vec();
-    let expected =
-        OPERATIONS.each_ref().map(|operation| (operation.name.to_uppercase(), rows(operation)));
-    let found = tables_in(&text_of(SOURCE));
-    let unlike = found.iter().zip(&expected).filter(|(found, table)| found != table);
-    let unlike: Vec<&str> = unlike.map(|(_, (name, _))| name.as_str()).collect();
-    assert!(found == expected, "{SOURCE} has other tables, {unlike:?}, than these:\n{wanted}");
+    let expected = OPERATIONS.each_ref().map(Part::of);
+    let source = text_of(SOURCE);
+    let found = parts_in(&source);
+    let unlike = found.iter().zip(&expected).filter(|(found, part)| found != part);
+    let unlike: Vec<&str> = unlike.map(|(_, part)| part.name.as_str()).collect();
+    assert!(
+        found == expected,
+        "{SOURCE} has another table, in {unlike:?}, than this:\n{}",
+        as_source(&expected)
+    );
+    let places: Vec<_> = expected.iter().zip(0..).map(|(part, k)| (part.name.clone(), k)).collect();
+    assert_eq!(places_in(&source), places);
 }
 
-/// Where a number, a row's length or a name is another, a row is missing, or two are exchanged.
+/// Where any of the 512 numbers is another.
+#[test]
+fn another_number_is_seen() {
+    let parts = OPERATIONS.each_ref().map(Part::of);
+    assert_eq!(parts_in(&as_source(&parts)), parts);
+    for part in 0..parts.len() {
+        for setting in 0..SETTINGS {
+            let mut changed = parts.clone();
+            changed[part].rows[setting / SIDE][setting % SIDE] += 1;
+            let found = parts_in(&as_source(&changed));
+            assert!(found == changed && found != parts, "{} {setting}", parts[part].name);
+        }
+    }
+}
+
+/// Where a name, a fact, a flow or a row's length is another, a row is missing, or two are
+/// exchanged; and where a part stands elsewhere.
 #[test]
 fn another_source_is_seen() {
-    let source: String = OPERATIONS.iter().map(as_source).collect();
-    let tables = tables_in(&source);
-    assert_eq!(tables.len(), OPERATIONS.len());
+    let parts = OPERATIONS.each_ref().map(Part::of);
+    let source = as_source(&parts);
+    let exchanged = |one: &str, other: &str| {
+        source.replacen(one, "ANOTHER", 1).replacen(other, one, 1).replacen("ANOTHER", other, 1)
+    };
     for changed in [
-        source.replacen("10", "11", 1),
-        source.replacen("    [10, 11,", "    // [10, 11,", 1),
-        source.replacen("    [10,", "    [10, 10,", 1),
-        source.replacen("const READ", "const REED", 1),
-        source.replacen("const PASS", "const POST", 1),
-        source
-            .replacen("READ", "OTHER", 1)
-            .replacen("WRITE", "READ", 1)
-            .replacen("OTHER", "WRITE", 1),
+        source.replacen("[10, 11,", "// [10, 11,", 1),
+        source.replacen("[10, 11,", "[10, 10, 11,", 1),
+        source.replacen("// Read:", "// Reed:", 1),
+        source.replacen("// Pass:", "// Post:", 1),
+        source.replacen("R(e) ≤ L(d)", "R(e) ≤ L(o)", 1),
+        source.replacen("e to o, e to d", "e to d, e to o", 1),
+        exchanged("// Read:", "// Write:"),
+        exchanged("[10, 11, 11, 11, 10, 16, 0, 16]", "[10, 0, 0, 0, 10, 16, 0, 16]"),
     ] {
-        assert!(changed != source && tables_in(&changed) != tables, "{changed}");
+        assert!(changed != source && parts_in(&changed) != parts, "{changed}");
+    }
+    let places = "Operation::Read => 0,\n        Operation::Write => 1,\n";
+    let read_and_write = [("Read".to_string(), 0), ("Write".to_string(), 1)];
+    assert_eq!(places_in(places), read_and_write);
+    for changed in [places.replace('0', "2"), places.replace("Write", "Move")] {
+        assert_ne!(places_in(&changed), read_and_write);
     }
 }
 

@@ -64,22 +64,22 @@ entryAt op s = entryOf (decided op (bit s 0) (bit s 1) (bit s 2) (bit s 3) (bit 
 
 -- ---- the table: eight operations times 64 settings
 
--- the numbers of each operation, 64 in eight rows of eight
+-- a part for each operation: 64 numbers, in eight rows of eight
 abbrev pub Entries : Type 0
 Entries = List (List (List ℕ))
 
 abbrev pub operations : ℕ
 operations = 8
 
--- whose numbers stand at each place
+-- whose part stands at each place
 abbrev pub operationAt : ℕ → Operation
 operationAt k = getD (Read ∷ Write ∷ Move ∷ Delete ∷ Call ∷ Invoke ∷ Pass ∷ Post ∷ []) k Post
 
--- what stands there for a setting: row s / 8, column s % 8
+-- what stands in part k for a setting: row s / 8, column s % 8
 abbrev pub entryIn : Entries → ℕ → ℕ → ℕ
 entryIn table k s = getD (getD (getD table k []) (s / 8) []) (s % 8) 0
 
--- that this is right: it is the number of the plain decision on its facts, and facts past the operation's own make no difference
+-- that this entry is right: it is the number of the plain decision on its facts, and facts past the operation's own make no difference
 abbrev pub right : Entries → ℕ → ℕ → Bool
 right table k s = eqb (entryIn table k s) (entryAt (operationAt k) s) && eqb (entryIn table k s) (entryIn table k (s % 2 ^ factsOf (operationAt k)))
 

@@ -126,14 +126,14 @@ const ENTRIES: Entries = [
     ],
 ];
 
-// The table with the one fact about it, that it is filled. The constant is named here alone: each proof over it goes through all 64 rows.
+// The table, with the one fact about it: it is filled. The constant is named here alone, so one proof goes through its 512 numbers.
 fn whole_table() -> Entries
     ensures { λ r. ⌜ filled r ≡ true ⌝ }
 {
     ENTRIES
 }
 
-// Where an operation's numbers stand.
+// Where the part of an operation stands in the table.
 fn number(operation: Operation) -> usize
     ensures { λ r. ⌜ (operationAt r ≡ operation) × (r < operations) ⌝ }
 {
@@ -174,7 +174,7 @@ fn meaning(entry: u8) -> Decision
     }
 }
 
-// The decision of an operation, looked up.
+// The decision of an operation by the table. Its part is copied out first: of a table with a variable index the compiler would store all.
 fn look_up(
     table: Entries,
     operation: Operation,
@@ -193,7 +193,7 @@ fn look_up(
     meaning(part[s / 8][s % 8])
 }
 
-// As look_up, of at most three facts: they reach the first row alone, and no more is stored.
+// As look_up, of at most three facts: they reach the first row alone, and no more of the part is stored.
 fn look_up_few(table: Entries, operation: Operation, f0: bool, f1: bool, f2: bool) -> Decision
     requires { ⌜ filled table ≡ true ⌝ }
     ensures { λ r. ⌜ r ≡ decided operation «f0» «f1» «f2» false false false ⌝ }
@@ -227,7 +227,7 @@ fn ruled(
     }
 }
 
-// The decision of an operation by the plain rules.
+// The same by the plain rules.
 pub fn by_rules(
     operation: Operation,
     f0: bool,
@@ -243,7 +243,7 @@ pub fn by_rules(
 }
 
 // ---- The decisions, by either engine. No engine stands in a contract: both decide alike.
-// Each has the whole table made, for an operation that is known there: once all is inlined, the compiler stores the numbers of that operation alone.
+// Each hands over the whole table, and an operation that is known there: once all is inlined, the compiler stores the part of that operation alone.
 
 pub fn read(engine: Engine, f0: bool, f1: bool, f2: bool, f3: bool, f4: bool, f5: bool) -> Decision
     ensures { λ r. ⌜ r ≡ settled (readDecision «f0» «f1» «f2» «f3» «f4» «f5») ⌝ }
