@@ -4,10 +4,11 @@ use mathlib.Core.Path.{_≡_, refl, sym, ap, ap₂, _∙_}
 use mathlib.Core.Bool.{Bool, true, false, _&&_}
 use mathlib.Core.List.{List, _∷_}
 use Prim.Native.Nat.{ℕ, _≤_, _<_}
+use native.Mathlib.Omega.{arith}
 use borrow.Author.Tests.{le-leb, lt-leb}
 use Rattle.rows.specs.Size.{numbers}
 use Rattle.records.specs.Records.{BytesLent}
-use Rattle.model.specs.Verdicts.{granted, slipped, row-path, row-rule, isDone}
+use Rattle.model.specs.Verdicts.{granted, slipped, row-number, row-path, row-rule, isDone}
 use Rattle.model.specs.State.{Memory, memory, task, object}
 use Rattle.model.specs.StateLaws.{task-used, object-used, used-below}
 use Rattle.model.specs.Effects.{Effect, effect, effects}
@@ -79,6 +80,11 @@ unfolding outcome
 turned-away m e is h =
     let n : isDone (verdictOf e) ≡ false = rw is at (lt-leb _ _ h) in
     rw n (λ i. record { verdict = is i; rounds = 0; memory = m })
+
+-- an event on wrong numbers is refused with their row, above all else of its table
+pub unnamed : (m : Memory) (e : Event) (named : Bool) (rest : ℕ) → verdictOf e ≡ unless named row-number rest → named ≡ false → left row-number 0 (m .bytes) (m .words) ≡ outcome m e
+unfolding unless
+unnamed m e named rest is n = turned-away m e (sym (is ∙ rw n)) (omega arith)
 
 module _ {m : Memory} {e : Event} {j : Decision} {does : Decision → List Effect} (t : Told m e j does) {d : Decision} (is : d ≡ j) where
   same : d .verdict ≡ verdictOf e

@@ -20,13 +20,13 @@ use Rattle.model.specs.Verdicts.{granted, slipped, row-number, row-driver, row-
 use Rattle.model.specs.State.{Memory, memory, task, object, levelOf, readLevelOf, driverOf, liesIn, marked, hasWrite}
 use Rattle.model.specs.Ready.{Ready}
 use Rattle.model.specs.Effects.{Effect, flow-if, read-access, bridge, clear, effect, effects}
-use Rattle.model.specs.Events.{Event, left, unless, firstFailing, verdictOf, outcome, feedsUnmarked, read, write, move, delete}
+use Rattle.model.specs.Events.{unless, firstFailing, verdictOf, feedsUnmarked, read, write, move, delete}
 use Rattle.places.specs.Places.{bytesInside}
 use Rattle.places.specs.PlaceLaws.{inside-is}
 use Rattle.decisions.specs.declared.Decision.{Decision}
 use Rattle.decisions.specs.Decisions.{apart, readDecision, writeDecision, moveDecision, deleteDecision}
 use Rattle.decisions.specs.Facts.{writes, bothWrite}
-use Rattle.decisions.specs.DecisionLaws.{Told, told-by, told-tests, turned-away, under, ends-done, apart-joins, task-small, object-small}
+use Rattle.decisions.specs.DecisionLaws.{Told, told-by, told-tests, under, ends-done, apart-joins, task-small, object-small}
 use Rattle.events.specs.Judged.{allWrite, mayMove, moveNamed, isEmpty, driven, lastRows, moveRows, deleteRows, readRuled, writeRuled, moveRuled, deleteRuled, readJudged, writeJudged, moveJudged, deleteJudged, readDoes, writeDoes, moveDoes, deleteDoes}
 
 -- a flow that one of two conditions records, of which at most one holds, is recorded where either holds
@@ -99,12 +99,6 @@ unfolding object
 asked-small bs long e d x k rest is told g =
     let p = simp and-eq-true-iff at (sym is ∙ asked-named bs _ d x rest (sym told ∙ g)) in
     object-small (memory bs []) x long (p .0 .1)
-
--- an event on wrong numbers is refused with their row
-pub unnamed : (m : Memory) (e : Event) (named : Bool) (d x rest : ℕ) → verdictOf e ≡ driven (m .bytes) named d x rest → named ≡ false
-    → left row-number 0 (m .bytes) (m .words) ≡ outcome m e
-unfolding driven unless
-unnamed m e named d x rest is n = turned-away m e (sym (is ∙ rw n)) (omega arith)
 
 -- what a deletion leaves: the flows past the object, then its record, its flows and the accesses to it cleared, then a flow to the driver
 pub deleted : (m : Memory) (e d x : ℕ) (b : Bool) {bs bridged cleared ws : List ℕ} → memory (m .bytes) bridged ≡ effect (bridge x) m → bs ≡ setRecord (m .bytes) x 0 0 0 0 0 0 0

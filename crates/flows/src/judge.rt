@@ -1,8 +1,9 @@
 // The verdict of each event of flows, and which of its flows are recorded.
 ghost use mathlib.Core.Path.{_≡_};
+ghost use mathlib.Core.Bool.{true, _&&_};
 ghost use mathlib.Core.List.{List};
 ghost use Prim.Native.Nat.{ℕ};
-ghost use Rattle.records.specs.Records.{BytesLent};
+ghost use Rattle.records.specs.Records.{BytesLent, isTask};
 ghost use Rattle.model.specs.State.{memory};
 ghost use Rattle.decisions.specs.Facts.{Levelled};
 ghost use Rattle.decisions.specs.Decisions.{settled};
@@ -26,32 +27,27 @@ use records::is_task;
 use rows::READS;
 use table::Engine;
 
+// A call and an invoke come with numbers that have been tested.
 pub fn call_task(bytes: &[u8], order: Order, engine: Engine, caller: u16, callee: u16) -> Decision
-    requires { ⌜ Levelled order (now bytes) ⌝ }
+    requires { ⌜ Levelled order (now bytes) × ((isTask (now bytes) caller && isTask (now bytes) callee) ≡ true) ⌝ }
     ensures { λ r. ⌜ ((ws : List ℕ) → r ≡ callJudged order (memory (now (bytes .entry)) ws) caller callee) ⌝ }
 {
     let rows = level_rows(bytes, order, caller);
-    let mut judged = table::call_task(
+    table::call_task(
         engine,
         reaches(bytes, order, rows.level, callee),
         reaches(bytes, order, rows.read, callee),
         marked(bytes, caller),
         marked(bytes, callee),
-    );
-    let named = is_task(bytes, caller) & is_task(bytes, callee);
-    judged.verdict = unless(named, NUMBER, judged.verdict);
-    judged
+    )
 }
 
 pub fn invoke(bytes: &[u8], order: Order, engine: Engine, invoker: u16, invokee: u16) -> Decision
-    requires { ⌜ Levelled order (now bytes) ⌝ }
+    requires { ⌜ Levelled order (now bytes) × ((isTask (now bytes) invoker && isTask (now bytes) invokee) ≡ true) ⌝ }
     ensures { λ r. ⌜ ((ws : List ℕ) → r ≡ invokeJudged order (memory (now (bytes .entry)) ws) invoker invokee) ⌝ }
 {
     let below = below(bytes, order, invokee, invoker);
-    let mut judged = table::invoke(engine, below, marked(bytes, invoker));
-    let named = is_task(bytes, invoker) & is_task(bytes, invokee);
-    judged.verdict = unless(named, NUMBER, judged.verdict);
-    judged
+    table::invoke(engine, below, marked(bytes, invoker))
 }
 
 // Whether what the task z read of the object x goes on, by a pass or a post.

@@ -1,5 +1,7 @@
 // The events of flows alone: call, invoke, pass, post and find, each equal to its table in the model, whichever engine decides.
 ghost use mathlib.Core.Path.{_≡_};
+ghost use mathlib.Core.Bool.{_&&_};
+ghost use Rattle.records.specs.Records.{isTask};
 ghost use Rattle.model.specs.State.{memory};
 ghost use Rattle.model.specs.Ready.{Ready};
 ghost use Rattle.model.specs.Events as model;
@@ -9,9 +11,22 @@ mod judge;
 
 use decisions::effects;
 use levels::Order;
+use model::NUMBER;
 use model::SLIPPED;
+use records::is_task;
 use table::Engine;
 
+// Two tasks.
+fn are_tasks(bytes: &[u8], a: u16, b: u16) -> bool
+    ensures { λ r. ⌜ r ≡ (isTask (now (bytes .entry)) a && isTask (now (bytes .entry)) b) ⌝ }
+{
+    if !is_task(bytes, a) {
+        return false;
+    }
+    is_task(bytes, b)
+}
+
+// A call and an invoke refuse wrong numbers first: what they look up after that does not wait for the test.
 pub fn call_task(
     bytes: &[u8],
     words: &mut [u64],
@@ -23,6 +38,9 @@ pub fn call_task(
     requires { ⌜ Ready order (now bytes) (now words) ⌝ }
     ensures { λ r. ⌜ left r 0 (now (bytes .entry)) (now (words .exit)) ≡ outcome (memory (now (bytes .entry)) (now (words .entry))) (model.callTask order (memory (now (bytes .entry)) (now (words .entry))) caller callee) ⌝ }
 {
+    if !are_tasks(bytes, caller, callee) {
+        return NUMBER;
+    }
     let judged = judge::call_task(bytes, order, engine, caller, callee);
     if judged.verdict <= SLIPPED {
         effects::record_both(words, judged, callee, caller, caller, callee);
@@ -41,6 +59,9 @@ pub fn invoke(
     requires { ⌜ Ready order (now bytes) (now words) ⌝ }
     ensures { λ r. ⌜ left r 0 (now (bytes .entry)) (now (words .exit)) ≡ outcome (memory (now (bytes .entry)) (now (words .entry))) (model.invoke order (memory (now (bytes .entry)) (now (words .entry))) invoker invokee) ⌝ }
 {
+    if !are_tasks(bytes, invoker, invokee) {
+        return NUMBER;
+    }
     let judged = judge::invoke(bytes, order, engine, invoker, invokee);
     if judged.verdict <= SLIPPED {
         effects::record_both(words, judged, invoker, invokee, invokee, invoker);

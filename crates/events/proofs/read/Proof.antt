@@ -3,14 +3,15 @@ use mathlib.Core.List.{[]}
 use borrow.Author.Needs.{needs}
 use borrow.Author.Tests.{not-true, not-false}
 use Rattle.model.specs.State.{task, object}
-use Rattle.decisions.specs.DecisionLaws.{done, refused}
-use Rattle.events.specs.EventLaws.{unnamed, read-verdict, read-told, read-fits}
+use Rattle.decisions.specs.DecisionLaws.{done, refused, unnamed}
+use Rattle.events.specs.Judged.{driven}
+use Rattle.events.specs.EventLaws.{read-verdict, read-told, read-fits}
 use Rattle.events.proofs.read.Statement.{statement}
 use Rattle.events.proofs.read.Tie as tie
 
 returns : tie.Need-returns
-unfolding task object
-returns c = unnamed _ _ _ _ _ _ (read-verdict _ _ _ _ _) (sym (c .before .are-named .ensures) ∙ not-true _ (c .if1 .taken))
+unfolding task object driven
+returns c = unnamed _ _ _ _ (read-verdict _ _ _ _ _) (sym (c .before .are-named .ensures) ∙ not-true _ (c .if1 .taken))
 
 read-requires : tie.Need-read-requires
 read-requires c κs =

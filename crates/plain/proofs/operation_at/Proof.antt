@@ -1,7 +1,6 @@
 use mathlib.Core.Path.{_≡_, refl, sym}
 use Prim.Native.Nat.{ℕ, zero, suc, _-_, _≤_}
 use native.Mathlib.Omega.{arith}
-use borrow.Author.Needs.{needs}
 use Rattle.table.specs.Table.{operationAt}
 use Rattle.table.specs.declared.Operation.the-variants.{Post}
 use Rattle.plain.proofs.operation_at.Statement.{statement}

@@ -1,6 +1,5 @@
-use mathlib.Core.Path.{refl, ap}
+use mathlib.Core.Path.{refl}
 use borrow.Author.Needs.{needs}
-use Rattle.model.specs.Verdicts.{row-number}
 use Rattle.model.specs.Events.{unless}
 use Rattle.model.specs.State.{task, marked}
 use Rattle.decisions.specs.DecisionLaws.{judged-is}
@@ -10,14 +9,10 @@ use Rattle.flows.proofs.judge.invoke.Statement.{statement}
 use Rattle.flows.proofs.judge.invoke.Tie as tie
 
 returns : tie.Need-returns
-unfolding task marked invokeRuled
+unfolding task marked invokeRuled unless
 returns c =
-    let d = c .before .before .before in
-    λ ws. judged-is _ _ (simp (d .invoke .ensures, d .before .marked .ensures, d .before .before .below .ensures) refl)
-    (λ v. rw invoke-verdict (simp (c .unless .ensures, c .before .is-task2 .ensures, c .before .before .is-task .ensures) (ap (unless _ row-number) v)))
+    λ ws. judged-is _ _ (simp (c .invoke .ensures, c .before .marked .ensures, c .before .before .below .ensures) refl)
+    (λ v. rw (invoke-verdict, c .before .before .before .before .pre .1) v)
 
 pub invoke-spec : {M : Type 1} → statement M
-invoke-spec =
-    tie.close
-    (tie.spec (λ c κs. search needs) (λ c κs. search needs) (λ c κs. search needs) (λ c κs. search needs) (λ c κs. search needs)
-    (λ c κs. search needs) returns)
+invoke-spec = tie.close (tie.spec (λ c κs. search needs) (λ c κs. search needs) (λ c κs. search needs) returns)
