@@ -1,4 +1,4 @@
--- What a whole call and a whole load come to: the contracts of both engines, of the exports and of the calls behind them, cite this.
+-- What a whole call and a whole load come to: the contracts of the exports, by either engine, and of `perform` and `load_counts` in this crate cite it.
 -- Assumes nothing.
 use mathlib.Core.Path.{_≡_}
 use mathlib.Core.List.{List}

@@ -1,4 +1,4 @@
--- The claim on the two engines: what the contracts of a whole call and a whole load say of the end leaves one end only. No engine stands in them, so on every memory, list, order, call and text both engines end alike.
+-- The claim on the two engines: what the contracts of a whole call and a whole load say of the end leaves one end only. No engine stands in them, so on every memory, list, order, call and text both engines end alike. That the engine by the table keeps them rests on the fact about the table, `filled`, by the contract of its lookups.
 -- Assumes nothing.
 use mathlib.Core.Path.{_≡_, sym, ap, _∙_}
 use mathlib.Core.List.{List}

@@ -46,7 +46,7 @@ pub fn level_rows(bytes: &[u8], order: Order, x: u16) -> Rows
     levels::rows_of(order, a as u16, b as u16)
 }
 
-// The level of y stands in a row. The order is asked for by the contract alone.
+// The level of y stands in a row. The order is asked for by the contract alone, and so is not copied.
 pub fn reaches(bytes: &[u8], order: Order, row: u16, y: u16) -> bool
     requires { ⌜ Levelled order (now bytes) ⌝ }
     ensures { λ r. ⌜ r ≡ bit row (field (now (bytes .entry)) y 1) ⌝ }

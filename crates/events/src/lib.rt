@@ -14,7 +14,7 @@ use model::NUMBER;
 use model::SLIPPED;
 use table::Engine;
 
-// A read and a write refuse wrong numbers first: what they look up after that needs no test of its range.
+// A read and a write refuse wrong numbers first, and leave.
 pub fn read(
     bytes: &[u8],
     words: &mut [u64],

@@ -26,7 +26,7 @@ fn are_tasks(bytes: &[u8], a: u16, b: u16) -> bool
     is_task(bytes, b)
 }
 
-// A call and an invoke refuse wrong numbers first: what they look up after that does not wait for the test.
+// A call and an invoke refuse wrong numbers first, and leave.
 pub fn call_task(
     bytes: &[u8],
     words: &mut [u64],

@@ -12,11 +12,11 @@ use Rattle.levels.specs.declared.Order.{Order}
 abbrev pub mostLevels : ℕ
 mostLevels = 16
 
--- row a
+-- row a: what level a is at or below; past the sixteen rows it is 0
 abbrev pub rowOf : Order → ℕ → ℕ
 rowOf o a = getD (o .rows) a 0
 
--- bit b of row a
+-- bit b of row a: it says a ≤ b
 abbrev pub related : Order → ℕ → ℕ → Bool
 related o a b = bit (rowOf o a) b
 

@@ -44,7 +44,7 @@ pub struct Rows {
     pub read: u16,
 }
 
-// One function for both: each that is given an order copies it.
+// One function for both: a function that finds a row in an order which it is given copies the order first.
 pub fn rows_of(order: Order, level: u16, read: u16) -> Rows
     requires { ⌜ (level < mostLevels) × (read < mostLevels) ⌝ }
     ensures { λ r. ⌜ (r .level ≡ rowOf order level) × (r .read ≡ rowOf order read) ⌝ }

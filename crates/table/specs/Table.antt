@@ -64,14 +64,14 @@ entryAt op s = entryOf (decided op (bit s 0) (bit s 1) (bit s 2) (bit s 3) (bit 
 
 -- ---- the table: eight operations times 64 settings
 
--- a part for each operation: 64 numbers, in eight rows of eight
+-- a part for each operation: 64 numbers, in eight rows of eight, as many as the type of the constant has
 abbrev pub Entries : Type 0
 Entries = List (List (List ℕ))
 
 abbrev pub operations : ℕ
 operations = 8
 
--- whose part stands at each place
+-- whose part stands at each place; past the eight it is the last's
 abbrev pub operationAt : ℕ → Operation
 operationAt k = getD (Read ∷ Write ∷ Move ∷ Delete ∷ Call ∷ Invoke ∷ Pass ∷ Post ∷ []) k Post
 

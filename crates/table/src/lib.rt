@@ -174,7 +174,7 @@ fn meaning(entry: u8) -> Decision
     }
 }
 
-// The decision of an operation by the table. Its part is copied out first: of a table with a variable index the compiler would store all.
+// The decision of an operation by the table. Its part is taken out first, where the operation is known: the compiler then stores no other.
 fn look_up(
     table: Entries,
     operation: Operation,
@@ -227,7 +227,7 @@ fn ruled(
     }
 }
 
-// The same by the plain rules.
+// The decision of an operation by the plain rules.
 pub fn by_rules(
     operation: Operation,
     f0: bool,
