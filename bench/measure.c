@@ -1,5 +1,6 @@
 #include "measure.h"
 
+#include <float.h>
 #include <stdio.h>
 #include <stdlib.h>
 #include <string.h>
@@ -158,10 +159,18 @@ static int rising(const void *a, const void *b)
     return (x > y) - (x < y);
 }
 
-static uint64_t middle(uint64_t *values, unsigned count)
+/*
+ * The mean of the middle half. A clock may go in steps, of 10 ns on some machines; the middle
+ * value alone would be off by up to one, and the mean is not.
+ */
+static double middle(uint64_t *values, unsigned count)
 {
+    double sum = 0;
+    unsigned from = count / 4, end = count - from;
     qsort(values, count, sizeof *values, rising);
-    return values[count / 2];
+    for (unsigned i = from; i < end; i++)
+        sum += (double)values[i];
+    return sum / (end - from);
 }
 
 int fit(struct effort effort)
@@ -170,7 +179,7 @@ int fit(struct effort effort)
 }
 
 /* What two readings of the clock take with nothing between them. */
-static uint64_t ticks_of_nothing(void)
+static double ticks_of_nothing(void)
 {
     static uint64_t took[MOST_BATCHES];
     for (unsigned b = 0; b < MOST_BATCHES; b++) {
@@ -191,24 +200,24 @@ static uint64_t timed_batch(const struct side *side, const struct item items[VAR
 
 /*
  * Batches of the two sides take turns, so that what else the machine does falls
- * on both. A run's time is its middle batch; the least of all runs is given.
+ * on both. A run's time is that of its middle batches; the least of all runs is given.
  */
 struct times measure(const struct item items[VARIANTS], struct effort effort)
 {
     static uint64_t took[SIDES][MOST_BATCHES];
-    uint64_t best[SIDES] = {UINT64_MAX, UINT64_MAX}, nothing = ticks_of_nothing();
+    double best[SIDES] = {DBL_MAX, DBL_MAX}, nothing = ticks_of_nothing();
     struct times times;
     for (unsigned r = 0; r < effort.runs; r++) {
         for (unsigned b = 0; b < effort.batches; b++)
             for (unsigned s = 0; s < SIDES; s++)
                 took[s][b] = timed_batch(&sides[s], items);
         for (unsigned s = 0; s < SIDES; s++) {
-            uint64_t run = middle(took[s], effort.batches);
+            double run = middle(took[s], effort.batches);
             if (run < best[s])
                 best[s] = run;
         }
     }
     for (unsigned s = 0; s < SIDES; s++)
-        times.best[s] = (double)(best[s] - nothing) / VARIANTS / ticks_of_a_nanosecond();
+        times.best[s] = (best[s] - nothing) / VARIANTS / ticks_of_a_nanosecond();
     return times;
 }

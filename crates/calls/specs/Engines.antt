@@ -7,19 +7,15 @@ use Rattle.levels.specs.declared.Order.{Order}
 use Rattle.model.specs.declared.Call.{Call}
 use Rattle.model.specs.declared.Tally.{Tally}
 use Rattle.model.specs.State.{Memory}
-use Rattle.model.specs.Events.{left}
-use Rattle.model.specs.Tallies.{Tallied, tallied}
+use Rattle.model.specs.Tallies.{Tallied}
 use Rattle.model.specs.Told.{told}
-use Rattle.calls.specs.Ends.{End, Performs, Loads}
+use Rattle.calls.specs.Ends.{End, endsAs, Performs, Loads}
 
 pub record EnginesAgree : Type 0 where
   pub calls : (o : Order) (m : Memory) (ts : List Tally) (c : Call) (table rules : End) → Performs o m ts c table → Performs o m ts c rules → table ≡ rules
   pub loads : (o : Order) (m : Memory) (ts : List Tally) (text : List ℕ) (table rules : End) → Loads o m ts text table → Loads o m ts text rules → table ≡ rules
 
 -- ---- its proof
-
-abbrev endsAs : End → Tallied
-endsAs z = tallied (left (z .answer .verdict) (z .answer .rounds) (z .bytes) (z .words)) (z .tallies)
 
 one-end : (a b : End) → endsAs a ≡ endsAs b → a .answer .told ≡ b .answer .told → a ≡ b
 one-end a b e w =

@@ -112,7 +112,7 @@ fn fits(bytes: &[u8], words: &[u64], order: Order) -> bool
     ensures { λ r. ⌜ r ≡ (lengthsFit (memory (now (bytes .entry)) (now (words .entry))) && sound order (now (bytes .entry))) ⌝ }
 {
     if lengths_fit(bytes, words) {
-        records::sound(bytes, order)
+        records::sound(bytes, order.count, order.top)
     } else {
         false
     }

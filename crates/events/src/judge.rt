@@ -3,8 +3,9 @@ ghost use mathlib.Core.Path.{_≡_};
 ghost use mathlib.Core.Bool.{true, _&&_};
 ghost use mathlib.Core.List.{List};
 ghost use Prim.Native.Nat.{ℕ, _<_};
+ghost use lib.Dec.{eqb};
 ghost use Rattle.rows.specs.Size.{numbers, WordsLent};
-ghost use Rattle.records.specs.Records.{BytesLent, isTask, isObject};
+ghost use Rattle.records.specs.Records.{BytesLent, container, isTask, isObject};
 ghost use Rattle.model.specs.Verdicts.{granted};
 ghost use Rattle.model.specs.State.{memory};
 ghost use Rattle.model.specs.Ready.{Ready};
@@ -34,6 +35,9 @@ use model::NUMBER;
 use model::PLACE;
 use places::lies_inside;
 use records::CONTAINER;
+use records::KIND;
+use records::OBJECT;
+use records::RECORD_SIZE;
 use records::is_object;
 use rows::NUMBERS;
 use table::Engine;
@@ -146,12 +150,26 @@ pub fn move_object(
     judged
 }
 
+// y is an object in x. The container is asked first: few records have that one, and the others need no look at their kind.
+fn lies_in(bytes: &[u8], y: u16, x: u16) -> bool
+    requires { ⌜ BytesLent (now bytes) × (y < numbers) ⌝ }
+    ensures { λ r. ⌜ r ≡ (isObject (now (bytes .entry)) y && eqb (container (now (bytes .entry)) y) x) ⌝ }
+{
+    let i = RECORD_SIZE * (y as usize);
+    let container = bytes[i + (CONTAINER as usize)];
+    if (container as u16) != x {
+        return false;
+    }
+    bytes[i + (KIND as usize)] == OBJECT
+}
+
 fn is_empty(bytes: &[u8], x: u16) -> bool
+    requires { ⌜ BytesLent (now bytes) ⌝ }
     ensures { λ r. ⌜ r ≡ isEmpty (now (bytes .entry)) x ⌝ }
 {
     let mut y: u16 = 0;
     while y < NUMBERS {
-        if is_object(bytes, y) & names(bytes, y, CONTAINER, x) {
+        if lies_in(bytes, y, x) {
             return false;
         }
         y += 1;

@@ -57,7 +57,7 @@ pub fn report(bytes: &[u8], words: &[u64], order: Order) -> Report
     if words.len() != rows::WORDS {
         return no_report(model::STATE);
     }
-    if !records::sound(bytes, order) {
+    if !records::sound(bytes, order.count, order.top) {
         return no_report(model::STATE);
     }
     if !levels::order_passes(order) {

@@ -12,7 +12,9 @@ use calls::Request;
 use decisions::Decision;
 use levels::Order;
 use model::Answer;
+use table::OPERATIONS;
 use table::Operation;
+use table::SETTINGS;
 
 // A whole call.
 #[no_mangle]
@@ -47,10 +49,6 @@ pub extern "C" fn tupehiwo_plain_load(
 
 // ---- The decision table's entries, worked out from the rules: the table itself is not looked at.
 
-const OPERATIONS: u16 = 8;
-
-const SETTINGS: u16 = 64;
-
 // Where a number names no operation or no setting.
 const NO_ENTRY: u8 = 255;
 
@@ -77,7 +75,7 @@ fn digit(flow: bool) -> u8
 }
 
 // The number of a decision. The verdicts of the rules are all below 16.
-fn number(decision: Decision) -> u8
+fn entry_of(decision: Decision) -> u8
     requires { ⌜ decision .verdict < 16 ⌝ }
     ensures { λ r. ⌜ r ≡ entryOf decision ⌝ }
 {
@@ -89,7 +87,7 @@ fn number(decision: Decision) -> u8
 pub extern "C" fn tupehiwo_plain_entry(operation: u16, setting: u16) -> u8
     ensures { λ r. ⌜ r ≡ entryFor operation setting ⌝ }
 {
-    if (operation < OPERATIONS) & (setting < SETTINGS) {
+    if ((operation as usize) < OPERATIONS) & ((setting as usize) < SETTINGS) {
         let s = setting as u64;
         let judged = table::by_rules(
             operation_at(operation),
@@ -100,7 +98,7 @@ pub extern "C" fn tupehiwo_plain_entry(operation: u16, setting: u16) -> u8
             bits::has_bit(s, 4),
             bits::has_bit(s, 5),
         );
-        number(judged)
+        entry_of(judged)
     } else {
         NO_ENTRY
     }

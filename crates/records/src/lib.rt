@@ -1,7 +1,8 @@
 // The records of the numbers, and the test that the bytes are sound.
 ghost use mathlib.Core.Path.{_≡_};
 ghost use mathlib.Core.Bool.{true, false};
-ghost use Prim.Native.Nat.{_+_, _*_, _%_, _≤_, _<_};
+ghost use mathlib.Core.List.{List};
+ghost use Prim.Native.Nat.{ℕ, _+_, _*_, _%_, _≤_, _<_};
 ghost use lib.ListN.{length, replicate};
 ghost use Rattle.records.specs.Records as model;
 ghost use Rattle.rows.specs.Size.{numbers};
@@ -506,8 +507,7 @@ fn plain_records(bytes: &[u8], order: Order) -> bool
     true
 }
 
-// The bytes are sound.
-pub fn sound(bytes: &[u8], order: Order) -> bool
+fn sound_under(bytes: &[u8], order: Order) -> bool
     ensures { λ r. ⌜ r ≡ model.sound order (now (bytes .entry)) ⌝ }
 {
     if bytes.len() != BYTES {
@@ -521,4 +521,16 @@ pub fn sound(bytes: &[u8], order: Order) -> bool
     } else {
         plain_records(bytes, order)
     }
+}
+
+// The bytes are sound under an order of so many levels and that top. Its rows play no part, so it is not copied for the test.
+pub fn sound(bytes: &[u8], count: u16, top: u16) -> bool
+    ensures { λ r. ⌜ ((rows : List ℕ) → r ≡ model.sound (record { rows = rows; count = count; top = top }) (now (bytes .entry))) ⌝ }
+{
+    let order = Order {
+        rows: [0u16; 16],
+        count,
+        top,
+    };
+    sound_under(bytes, order)
 }

@@ -30,10 +30,19 @@ pub const RULES: Engine = false;
 // In the place of a fact that an operation does not have.
 const UNUSED: bool = false;
 
+// How many operations there are, and settings of six facts, which stand in rows.
+pub const OPERATIONS: usize = 8;
+
+pub const SETTINGS: usize = ROWS * ROW;
+
+const ROWS: usize = 8;
+
+const ROW: usize = 8;
+
 // The table: 512 numbers, 64 for each operation in the order above, one for each setting of six facts.
 // Above an operation's numbers stand its facts, fact 0 first, and its flows; L and R are the levels of document 01. In the setting s, fact i is bit i of s, and the entry is in row s / 8, column s % 8: a row goes through facts 0, 1 and 2, and the rows through facts 3, 4 and 5. Unused facts make no difference.
 // An entry is the verdict, with 16 added where the first flow is recorded and 32 where the second is. docs/DECISION-TABLE.md has it in print.
-type Entries = [[[u8; 8]; 8]; 8];
+type Entries = [[[u8; ROW]; ROWS]; OPERATIONS];
 
 const ENTRIES: Entries = [
     // Read: L(e) ≤ L(d), R(e) ≤ L(d), L(e) ≤ L(o), R(e) ≤ L(o), d marked, e marked. Flows: o to e, d to e.
@@ -134,7 +143,7 @@ fn whole_table() -> Entries
 }
 
 // Where the part of an operation stands in the table.
-fn number(operation: Operation) -> usize
+fn place(operation: Operation) -> usize
     ensures { λ r. ⌜ (operationAt r ≡ operation) × (r < operations) ⌝ }
 {
     match operation {
@@ -188,9 +197,9 @@ fn look_up(
     requires { ⌜ filled table ≡ true ⌝ }
     ensures { λ r. ⌜ r ≡ decided operation «f0» «f1» «f2» «f3» «f4» «f5» ⌝ }
 {
-    let part = table[number(operation)];
+    let part = table[place(operation)];
     let s = setting(f0, f1, f2, f3, f4, f5);
-    meaning(part[s / 8][s % 8])
+    meaning(part[s / ROW][s % ROW])
 }
 
 // As look_up, of at most three facts: they reach the first row alone, and no more of the part is stored.
@@ -198,7 +207,7 @@ fn look_up_few(table: Entries, operation: Operation, f0: bool, f1: bool, f2: boo
     requires { ⌜ filled table ≡ true ⌝ }
     ensures { λ r. ⌜ r ≡ decided operation «f0» «f1» «f2» false false false ⌝ }
 {
-    let part = table[number(operation)];
+    let part = table[place(operation)];
     let first = part[0];
     meaning(first[digit(f0) + 2 * (digit(f1) + 2 * digit(f2))])
 }

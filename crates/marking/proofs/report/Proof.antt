@@ -16,28 +16,28 @@ returns c =
 returns-2 : tie.Need-returns-2
 returns-2 c =
     let a = c .before .before .before .before .before .before .args in
-    c .no-report2 .ensures ∙ report-unsound (a .order) (memory (a .bytes .now) (a .words .now)) (sym (c .before .before .sound .ensures) ∙ not-true _ (c .before .if2 .taken))
+    c .no-report2 .ensures ∙ report-unsound (a .order) (memory (a .bytes .now) (a .words .now)) (sym (c .before .before .sound .ensures _) ∙ not-true _ (c .before .if2 .taken))
 
 returns-3 : tie.Need-returns-3
 returns-3 c =
     let a = c .before .before .before .before .before .before .before .before .args in
     let d = c .before .before .before in
     c .no-report3 .ensures
-    ∙ report-order (a .order) (memory (a .bytes .now) (a .words .now)) (d .before .before .if1 .left) (sym (d .before .sound .ensures) ∙ not-false _ (d .if2 .left))
+    ∙ report-order (a .order) (memory (a .bytes .now) (a .words .now)) (d .before .before .if1 .left) (sym (d .before .sound .ensures _) ∙ not-false _ (d .if2 .left))
     (sym (c .before .before .order-passes .ensures) ∙ not-true _ (c .before .if3 .taken))
 
 marked-report-requires : tie.Need-marked-report-requires
 marked-report-requires c κs =
     let a = c .before .before .before .before .before .before .before .args in
     let d = c .before .before in
-    long present (a .order) (a .bytes .now) (sym (d .before .sound .ensures) ∙ not-false _ (d .if2 .left))
+    long present (a .order) (a .bytes .now) (sym (d .before .sound .ensures _) ∙ not-false _ (d .if2 .left))
 
 returns-4 : tie.Need-returns-4
 returns-4 c =
     let a = c .before .before .before .before .before .before .before .before .args in
     let d = c .before .before .before in
     c .marked-report .ensures (a .words .now)
-    ∙ report-whole (a .order) (memory (a .bytes .now) (a .words .now)) (d .before .before .if1 .left) (sym (d .before .sound .ensures) ∙ not-false _ (d .if2 .left))
+    ∙ report-whole (a .order) (memory (a .bytes .now) (a .words .now)) (d .before .before .if1 .left) (sym (d .before .sound .ensures _) ∙ not-false _ (d .if2 .left))
     (sym (c .before .before .order-passes .ensures) ∙ not-false _ (c .before .if3 .left))
 
 pub report-spec : {M : Type 1} → statement M

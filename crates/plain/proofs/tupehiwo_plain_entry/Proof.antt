@@ -6,9 +6,9 @@ use Rattle.plain.proofs.tupehiwo_plain_entry.Statement.{statement}
 use Rattle.plain.proofs.tupehiwo_plain_entry.Tie as tie
 
 -- settling keeps the verdict of the rule
-number-requires : tie.Need-number-requires
+entry-of-requires : tie.Need-entry-of-requires
 unfolding settled
-number-requires c κs =
+entry-of-requires c κs =
     let b = c .before in
     rw (c .by-rules .ensures)
     (verdicts
@@ -27,7 +27,7 @@ returns c =
     let b = r .before in
     simp (
       b .before .before .before .before .before .before .before .if1 .taken,
-      c .number .ensures,
+      c .entry-of .ensures,
       r .by-rules .ensures,
       b .has-bit6 .ensures,
       b .before .has-bit5 .ensures,
@@ -46,4 +46,4 @@ pub tupehiwo-plain-entry-spec : {M : Type 1} → statement M
 tupehiwo-plain-entry-spec =
     tie.close
     (tie.spec (λ c κs. search needs) (λ c κs. search needs) (λ c κs. search needs) (λ c κs. search needs) (λ c κs. search needs)
-    (λ c κs. search needs) (λ c κs. search needs) (λ c κs. search needs) number-requires returns returns-2)
+    (λ c κs. search needs) (λ c κs. search needs) (λ c κs. search needs) entry-of-requires returns returns-2)

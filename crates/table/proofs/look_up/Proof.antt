@@ -8,7 +8,7 @@ returns : tie.Need-returns
 returns c =
     let s = c .before .before in
     let k = s .before .before in
-    c .meaning .ensures ∙ looked-up _ (k .before .pre) _ (k .number .ensures) _ _ _ _ _ _ (s .setting .ensures)
+    c .meaning .ensures ∙ looked-up _ (k .before .pre) _ (k .place .ensures) _ _ _ _ _ _ (s .setting .ensures)
 
 pub look-up-spec : {M : Type 1} → statement M
 look-up-spec =

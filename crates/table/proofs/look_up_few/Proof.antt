@@ -9,7 +9,7 @@ returns c =
     let k = d .before .before .before .before .before in
     let a = k .before in
     simp (c .meaning .ensures, d .digit3 .ensures .0, d .before .digit2 .ensures .0, d .before .before .digit .ensures .0)
-    (looked-up-few _ (a .pre) (a .args .operation) (k .number .ensures) (a .args .f0) (a .args .f1) (a .args .f2))
+    (looked-up-few _ (a .pre) (a .args .operation) (k .place .ensures) (a .args .f0) (a .args .f1) (a .args .f2))
 
 pub look-up-few-spec : {M : Type 1} → statement M
 look-up-few-spec =

@@ -5,6 +5,7 @@ use mathlib.Core.Bool.{Bool, false, not, _&&_}
 use mathlib.Core.List.{List}
 use Prim.Native.Nat.{ℕ, _≤_, _-_}
 use native.Mathlib.Omega.{arith}
+use borrow.Author.Needs.{needs}
 use lib.Dec.{eqb}
 use Rattle.bits.specs.All.{anyB}
 use Rattle.bits.specs.AllLaws.{any-none, any-more, any-i}
@@ -29,14 +30,12 @@ loop-holds c = (omega arith, any-none _)
 returns : tie.Need-returns Inv-loop μ-loop
 unfolding isEmpty
 returns c =
-    let test = simp (c .before .names .ensures, c .before .before .is-object .ensures) at (c .if1 .taken) in
-    let args = c .before .before .before .before .before .before .args in
-    sym (ap not (any-i _ (inside (args .bytes .now) (args .x)) _ (omega arith) test))
+    let args = c .before .before .before .before .before .args in
+    sym (ap not (any-i _ (inside (args .bytes .now) (args .x)) _ (omega arith) (simp (c .before .lies-in .ensures) at (c .if1 .taken))))
 
 loop-again : tie.Need-loop-again Inv-loop μ-loop
 loop-again c =
-    let test = simp (c .before .names .ensures, c .before .before .is-object .ensures) at (c .if1 .left) in
-    (omega arith, any-more _ _ ∙ rw (c .before .before .before .before .loop .inv .1) test)
+    (omega arith, any-more _ _ ∙ rw (c .before .before .before .loop .inv .1) (simp (c .before .lies-in .ensures) at (c .if1 .left)))
 
 returns-2 : tie.Need-returns-2 Inv-loop μ-loop
 unfolding isEmpty
@@ -47,4 +46,4 @@ returns-2 c =
 pub is-empty-spec : {M : Type 1} → statement M
 is-empty-spec =
     tie.close
-    (tie.spec Inv-loop μ-loop loop-holds (λ c κs. omega arith) (λ c κs. omega arith) returns (λ c. omega arith) (λ c. omega arith) loop-again returns-2)
+    (tie.spec Inv-loop μ-loop loop-holds (λ c κs. search needs) returns (λ c. omega arith) (λ c. omega arith) loop-again returns-2)
