@@ -19,7 +19,7 @@ const SOURCE: &str = "crates/table/src/lib.rt";
 // -------------------------------------------------------------------- the source
 
 /// The type of the table, how it begins and how it ends.
-const TYPE: &str = "type Entries = [[[u8; 8]; 8]; 8];\n";
+const TYPE: &str = "type Entries = [[[u8; ROW]; ROWS]; OPERATIONS];\n";
 const BEGINNING: &str = "const ENTRIES: Entries = [\n";
 const END: &str = "\n];\n";
 

@@ -17,10 +17,11 @@ use Rattle.decisions.specs.Decisions.{callDecision, invokeDecision, relayDecisi
 use Rattle.decisions.specs.DecisionLaws.{Told, told-by, under, task-small}
 use Rattle.flows.specs.Judged.{callRuled, invokeRuled, relayRuled, callJudged, invokeJudged, passJudged, postJudged, findJudged, callDoes, invokeDoes, relayDoes}
 
--- the rows that a pass and a post have above the rule
-pub relay-rows : (named others held : Bool) {v w : ℕ} → v ≡ w
-    → unless named row-number (unless others row-place (unless held row-held v)) ≡ unless named row-number (unless others row-place (unless held row-held w))
-relay-rows named others held = ap (λ (v : ℕ). unless named row-number (unless others row-place (unless held row-held v)))
+-- the rows that a pass and a post have above the rule, where the numbers are right
+pub relay-rows : {named : Bool} → named ≡ true → (others held : Bool) {v w : ℕ} → v ≡ w
+    → unless others row-place (unless held row-held v) ≡ unless named row-number (unless others row-place (unless held row-held w))
+unfolding unless
+relay-rows n others held e = rw (n, e) refl
 
 module _ (o : Order) (m : Memory) where
   pub call-verdict : (a b : ℕ) → verdictOf (callTask o m a b) ≡ unless (task m a && task m b) row-number (callRuled o m a b .verdict)

@@ -1,9 +1,10 @@
 // The verdict of each event of flows, and which of its flows are recorded.
 ghost use mathlib.Core.Path.{_≡_};
-ghost use mathlib.Core.Bool.{true, _&&_};
+ghost use mathlib.Core.Bool.{true, not, _&&_};
 ghost use mathlib.Core.List.{List};
 ghost use Prim.Native.Nat.{ℕ};
-ghost use Rattle.records.specs.Records.{BytesLent, isTask};
+ghost use lib.Dec.{eqb};
+ghost use Rattle.records.specs.Records.{BytesLent, kind, isTask, isObject};
 ghost use Rattle.model.specs.State.{memory};
 ghost use Rattle.decisions.specs.Facts.{Levelled};
 ghost use Rattle.decisions.specs.Decisions.{settled};
@@ -22,12 +23,11 @@ use model::HELD;
 use model::NUMBER;
 use model::PLACE;
 use records::DRIVER;
-use records::is_object;
 use records::is_task;
 use rows::READS;
 use table::Engine;
 
-// A call and an invoke come with numbers that have been tested.
+// All but a find come with numbers that have been tested.
 pub fn call_task(bytes: &[u8], order: Order, engine: Engine, caller: u16, callee: u16) -> Decision
     requires { ⌜ Levelled order (now bytes) × ((isTask (now bytes) caller && isTask (now bytes) callee) ≡ true) ⌝ }
     ensures { λ r. ⌜ ((ws : List ℕ) → r ≡ callJudged order (memory (now (bytes .entry)) ws) caller callee) ⌝ }
@@ -78,14 +78,12 @@ pub fn pass(
     x: u16,
     y: u16,
 ) -> Decision
-    requires { ⌜ BytesLent (now bytes) × Levelled order (now bytes) ⌝ }
+    requires { ⌜ BytesLent (now bytes) × Levelled order (now bytes) × ((isTask (now bytes) z && isObject (now bytes) x && not (eqb (kind (now bytes) y) 0)) ≡ true) ⌝ }
     ensures { λ r. ⌜ r ≡ passJudged order (memory (now (bytes .entry)) (now (words .entry))) z x y ⌝ }
 {
     let mut judged = relay(bytes, order, engine, false, z, x);
-    let named = is_task(bytes, z) & is_object(bytes, x) & in_use(bytes, y);
     let held = rows::has(words, z, y) & has_access(words, READS, z, x);
-    let row = unless(y != x, PLACE, unless(held, HELD, judged.verdict));
-    judged.verdict = unless(named, NUMBER, row);
+    judged.verdict = unless(y != x, PLACE, unless(held, HELD, judged.verdict));
     judged
 }
 
@@ -98,14 +96,12 @@ pub fn post(
     z: u16,
     y: u16,
 ) -> Decision
-    requires { ⌜ BytesLent (now bytes) × Levelled order (now bytes) ⌝ }
+    requires { ⌜ BytesLent (now bytes) × Levelled order (now bytes) × ((isTask (now bytes) x && isObject (now bytes) z && isTask (now bytes) y) ≡ true) ⌝ }
     ensures { λ r. ⌜ r ≡ postJudged order (memory (now (bytes .entry)) (now (words .entry))) x z y ⌝ }
 {
     let mut judged = relay(bytes, order, engine, true, y, z);
-    let named = is_task(bytes, x) & is_object(bytes, z) & is_task(bytes, y);
     let held = rows::has(words, x, z) & has_access(words, READS, y, z);
-    let row = unless(x != y, PLACE, unless(held, HELD, judged.verdict));
-    judged.verdict = unless(named, NUMBER, row);
+    judged.verdict = unless(x != y, PLACE, unless(held, HELD, judged.verdict));
     judged
 }
 

@@ -10,9 +10,11 @@ ghost use Rattle.model.specs.Events.{left, outcome};
 mod judge;
 
 use decisions::effects;
+use decisions::facts::in_use;
 use levels::Order;
 use model::NUMBER;
 use model::SLIPPED;
+use records::is_object;
 use records::is_task;
 use table::Engine;
 
@@ -26,7 +28,7 @@ fn are_tasks(bytes: &[u8], a: u16, b: u16) -> bool
     is_task(bytes, b)
 }
 
-// A call and an invoke refuse wrong numbers first, and leave.
+// All but a find refuse wrong numbers first, and leave.
 pub fn call_task(
     bytes: &[u8],
     words: &mut [u64],
@@ -81,6 +83,9 @@ pub fn pass(
     requires { ⌜ Ready order (now bytes) (now words) ⌝ }
     ensures { λ r. ⌜ left r 0 (now (bytes .entry)) (now (words .exit)) ≡ outcome (memory (now (bytes .entry)) (now (words .entry))) (model.pass order (memory (now (bytes .entry)) (now (words .entry))) z x y) ⌝ }
 {
+    if !(is_task(bytes, z) & is_object(bytes, x) & in_use(bytes, y)) {
+        return NUMBER;
+    }
     let judged = judge::pass(bytes, words, order, engine, z, x, y);
     if judged.verdict <= SLIPPED {
         effects::record_first(words, judged, x, y);
@@ -100,6 +105,9 @@ pub fn post(
     requires { ⌜ Ready order (now bytes) (now words) ⌝ }
     ensures { λ r. ⌜ left r 0 (now (bytes .entry)) (now (words .exit)) ≡ outcome (memory (now (bytes .entry)) (now (words .entry))) (model.post order (memory (now (bytes .entry)) (now (words .entry))) x z y) ⌝ }
 {
+    if !(is_task(bytes, x) & is_object(bytes, z) & is_task(bytes, y)) {
+        return NUMBER;
+    }
     let judged = judge::post(bytes, words, order, engine, x, z, y);
     if judged.verdict <= SLIPPED {
         effects::record_first(words, judged, x, y);
