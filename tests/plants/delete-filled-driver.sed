@@ -1,0 +1,1 @@
+/^static int filled/,/^}/s/CONTAINER/DRIVER/
