@@ -76,13 +76,15 @@ def mapping():
     return to
 
 
-def turn_antt(t, to, fields):
-    """A field of a record that the check makes stays; a comment names things in backquotes alone."""
+def turn_antt(t, to, fields, is_proof):
+    """In a function's proof a field of a record that the check makes stays. A comment names things in backquotes alone."""
+    modules = set(re.findall(r"^use \S+ as (\S+)", t, re.M)) - {"tie", "goal"}
 
     def code(part):
         def word(m):
             name = m.group(0)
-            made = m.start() and part[m.start() - 1] == "." and name not in fields
+            before = re.search(r"([\w'-]*)\.$", part[: m.start()])
+            made = is_proof and before and name not in fields and before.group(1) not in modules
             return name if made else to.get(name, name)
 
         return TOKEN.sub(word, part)
@@ -135,7 +137,7 @@ def main():
     for path in [*files("specs", ".antt"), *files("proofs", ".antt"), *files("src", ".rt"), *files("must-fail", ".edit")]:
         t = text(path)
         if path.endswith(".antt"):
-            new = turn_antt(t, to, fields)
+            new = turn_antt(t, to, fields, f"{os.sep}proofs{os.sep}" in path)
         else:
             new = turn_edit(t, to) if path.endswith(".edit") else turn_source(t, to)
         if new != t:

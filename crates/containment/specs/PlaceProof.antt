@@ -20,7 +20,7 @@ use Rattle.model.specs.TableLaws.{fitted_fits}
 use Rattle.containment.specs.Claims.{InsideExact, Misplaced, from_itself, to_itself, to_the_same, not_there, to_its_inside, MovePlace}
 
 pub inside_exact : InsideExact
-inside_exact size o m ok = inside_laws.inside-exact m o ok
+inside_exact size o m ok = inside_laws.inside_exact m o ok
 
 -- ---- row 7
 
@@ -54,7 +54,7 @@ module _ {size : Size} (o : Order) (m : MemoryOf size) (ok : sound_of size o m.b
       (λ n. to_itself (eqb-true x t (not-false _ n))) (one_fails _ _ e2))
       (λ n. to_the_same (eqb-true f t (not-false _ n))) (one_fails _ _ e3))
       not_there (one_fails _ _ e4))
-      (λ n. to_its_inside ((inside_laws.inside-exact m o ok t x h).0 (not-false _ n))) (one_fails _ _ e)
+      (λ n. to_its_inside ((inside_laws.inside_exact m o ok t x h).0 (not-false _ n))) (one_fails _ _ e)
 
   fails : Misplaced m x f t → placed ≡ false
   unfolding placed
@@ -62,7 +62,7 @@ module _ {size : Size} (o : Order) (m : MemoryOf size) (ok : sound_of size o m.b
   fails (to_itself e) = rw (eq-eqb x t e, and-false)
   fails (to_the_same e) = rw (eq-eqb f t e, and-false)
   fails (not_there e) = rw (e, and-false)
-  fails (to_its_inside i) = rw ((inside_laws.inside-exact m o ok t x h).1 i, and-false)
+  fails (to_its_inside i) = rw ((inside_laws.inside_exact m o ok t x h).1 i, and-false)
 
 -- past rows 4 and 6
 move_rows_law : {size : Size} (o : Order) (m : MemoryOf size) → lengths_fit m ≡ true → (s : sound_of size o m.bytes ≡ true) → order_passes o ≡ true → (e d x f t : ℕ)

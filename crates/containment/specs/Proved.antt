@@ -68,7 +68,7 @@ determined size b m n is p q = ap (λ (u : MemoryOf size). run is (standing (len
 -- ---- soundness is kept
 
 pub leaves_sound : LeavesSound
-leaves_sound = model.leaves-sound
+leaves_sound = model.leaves_sound
 
 -- ---- rows 2 and 3 do not apply
 

@@ -18,7 +18,7 @@ use Rattle.model.specs.TrialsProved.{trials_hold, deletions_hold}
 use Rattle.containment.specs.ToldClaims.{Twins, ToldAlike, VerdictsShowMarks}
 
 pub told_alike : ToldAlike
-told_alike size o m n k ts us e c = model.told-alike o m n k.but_marks k.sound_one k.sound_other ts us c e
+told_alike size o m n k ts us e c = model.told_alike o m n k.but_marks k.sound_one k.sound_other ts us c e
 
 -- ---- trials of the model, two by two: the first has one mark more
 

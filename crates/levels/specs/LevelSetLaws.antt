@@ -4,7 +4,7 @@ use Rattle.std.specs.Prelude.{◌≡◌, Bool, true, false, ◌||◌, ◌⊎◌,
 use Rattle.std.proofs.Common.{sym, ap, ◌∙◌, true≢false, inl, inr, ⊎_elim, arith}
 use borrow.Author.Tests.{eqb-true, ltb-true, lt-ltb, eq-eqb}
 use Rattle.bits.specs.Bit.{bit}
-use Rattle.bits.specs.BitLaws.{bit_or_law, bit_pow, bit_zero, or_again}
+use Rattle.bits.specs.BitLaws.{bit_or_law, bit_pow, bit_zero}
 use Rattle.bits.specs.AllLaws.{either, both_ways, implies, implied, all_at, all_i, or_cases}
 use Rattle.levels.specs.Order.{most_levels}
 use Rattle.levels.specs.OrderRowsLaws.{short_i, short_at}
@@ -13,11 +13,6 @@ use Rattle.levels.specs.LevelSet.{with_level, set_fits}
 pub in_with : (set l k : ℕ) → bit (with_level set l) k ≡ (bit set k || eqb k l)
 unfolding with_level
 in_with set l k = bit_or_law set (2 ^ l) k ∙ ap (λ (b : Bool). bit set k || b) (bit_pow l k)
-
--- a level that is in it
-pub with_again : (set l : ℕ) → bit set l ≡ true → with_level set l ≡ set
-unfolding with_level
-with_again set l h = or_again set (2 ^ l) (λ i e. rw (eqb-true i l (sym (bit_pow l i) ∙ e)) h)
 
 -- the empty set fits every count
 pub none_fits : (count : ℕ) → set_fits count 0 ≡ true

@@ -44,23 +44,23 @@ module _ {size : Size} where
   in_use m x = not (eqb (kind m.bytes x) 0)
 
   unfoldable pub task : MemoryOf size → ℕ → Bool
-  task m x = records.isTask m.bytes x
+  task m x = records.is_task m.bytes x
 
   unfoldable pub object : MemoryOf size → ℕ → Bool
-  object m x = records.isObject m.bytes x
+  object m x = records.is_object m.bytes x
 
   abbrev pub level_of : MemoryOf size → ℕ → ℕ
   level_of m x = records.level m.bytes x
 
   abbrev pub read_level_of : MemoryOf size → ℕ → ℕ
-  read_level_of m x = records.readLevel m.bytes x
+  read_level_of m x = records.read_level m.bytes x
 
   abbrev pub driver_of : MemoryOf size → ℕ → ℕ
   driver_of m x = records.driver m.bytes x
 
   -- the object x is a root: it is in no container
   abbrev pub is_root : MemoryOf size → ℕ → Bool
-  is_root m x = records.isRoot size m.bytes x
+  is_root m x = records.is_root size m.bytes x
 
   -- the container that the object x is in, if it is no root
   abbrev pub container_of : MemoryOf size → ℕ → ℕ
@@ -68,7 +68,7 @@ module _ {size : Size} where
 
   -- the object x is in the container k, not deeper
   abbrev pub lies_in : MemoryOf size → ℕ → ℕ → Bool
-  lies_in m x k = records.liesWithin size m.bytes x k
+  lies_in m x k = records.lies_within size m.bytes x k
 
   -- "marked", from outside or not
   unfoldable pub marked : MemoryOf size → ℕ → Bool
