@@ -85,7 +85,9 @@ def turn_antt(t, to, fields, is_proof):
             name = m.group(0)
             before = re.search(r"([\w'-]*)\.$", part[: m.start()])
             made = is_proof and before and name not in fields and before.group(1) not in modules
-            return name if made else to.get(name, name)
+            hole = "◌" if name.startswith("◌") and name.endswith("◌") else ""
+            bare_name = name.strip("◌") if hole else name
+            return name if made else hole + to.get(bare_name, bare_name) + hole
 
         return TOKEN.sub(word, part)
 

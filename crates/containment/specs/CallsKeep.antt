@@ -49,7 +49,7 @@ empty_limits size o =
     record {
       fits = and_i (eq-eqb _ _ (length-replicate {A = ℕ} (lent_bytes size) 0)) (eq-eqb _ _ (length-replicate {A = ℕ} (lent_words size) 0));
       bounded = λ x l. bounded_none (standing o (empty size) []) x (rw (field_zero _ x 0)) (rw (field_zero _ x 5));
-      named = λ t h. absurd (Memᴰ.not_nil h);
+      named = λ t h. absurd (Memᴰ.not-nil h);
       recorded = λ t x y a b h. absurd (true≢false (sym h ∙ cell_zeros (row_size_of size) (lent_words size) (row size t x) y));
     }
 

@@ -254,13 +254,13 @@ module _ {size : Size} (m : MemoryOf size) (long : Long m) (unmarked : (x : ℕ)
   nothing_traced =
       record {
         known = λ a b j. absurd (false≢true j);
-        known_named = λ a q. absurd (Memᴰ.not_nil q);
+        known_named = λ a q. absurd (Memᴰ.not-nil q);
         linked = λ a b t la lb. alone a t lb;
         fed = λ b t lb. absurd (nowhere t);
       }
     where
       nowhere : {b : Life} → Linked nothing (Named nothing) b → ⊥
-      nowhere (begins a q) = Memᴰ.not_nil q
+      nowhere (begins a q) = Memᴰ.not-nil q
       nowhere (further a b t j) = false≢true j
 
       alone : (a : Life) {b : Life} → Linked nothing (λ c. a ≡ c) b → Living m nothing b → Path m a.number b.number

@@ -83,7 +83,7 @@ module _ {size : Size} (o : Order) where
 
     -- no task is named, so nothing is marked
     pub unmarked : (x : ℕ) → marked m x ≡ false
-    unmarked x = not_so _ (λ h. Memᴰ.not_nil ((i.limits.bounded x (marked_below m x long.bytes_long h)).mark_covered h).1)
+    unmarked x = not_so _ (λ h. Memᴰ.not-nil ((i.limits.bounded x (marked_below m x long.bytes_long h)).mark_covered h).1)
 
     stands_on : (c : Call) → role c ≡ other → is_done (perform o m c).verdict ≡ true → Stands (perform o m c).memory
     unfolding entered

@@ -13,8 +13,8 @@ pub record Drawer : Type 0 where
   pub number : ℕ
   pub place : Place
 
-infix 75 ◌in-◌
-abbrev ◌in-◌ : ℕ → ℕ → Drawer
+infix 75 ◌in_◌
+abbrev ◌in_◌ : ℕ → ℕ → Drawer
 n in_ k = record { number = n; place = within k }
 
 abbrev at_root : ℕ → Drawer
