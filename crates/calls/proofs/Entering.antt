@@ -20,10 +20,10 @@ use Rattle.model.specs.Ready.{Ready}
 use Rattle.model.specs.Events.{Outcome, left}
 use Rattle.model.specs.Monitor.{refused_unless, start, perform}
 use Rattle.model.specs.Load.{past_order}
-use Rattle.model.specs.LoadLaws.{past_rows}
-use Rattle.model.specs.ReadyLaws.{ready_sound}
+use Rattle.model.proofs.LoadLaws.{past_rows}
+use Rattle.model.proofs.ReadyLaws.{ready_sound}
 use Rattle.model.specs.Tallies.{is_start, asker, counted_on}
-use Rattle.model.specs.TallyLaws.{not_start}
+use Rattle.model.proofs.TallyLaws.{not_start}
 use Rattle.model.specs.Told.{no_word}
 use Rattle.tallies.specs.declared.Entry.{Entry}
 use Rattle.tallies.specs.Entries.{InList, Enters}

@@ -18,9 +18,9 @@ use Rattle.model.specs.Ready.{Ready}
 use Rattle.model.specs.Events.{Outcome, left}
 use Rattle.model.specs.Monitor.{refusal, started, start}
 use Rattle.model.specs.Load.{whole, laid_out, load}
-use Rattle.model.specs.TableLaws.{start_done}
-use Rattle.model.specs.SoundLaws.{started_sound}
-use Rattle.model.specs.ReadyLaws.{sound_ready}
+use Rattle.model.proofs.TableLaws.{start_done}
+use Rattle.model.proofs.SoundLaws.{started_sound}
+use Rattle.model.proofs.ReadyLaws.{sound_ready}
 use Rattle.calls.proofs.Rows.{passed, stopped}
 
 -- ---- a load begins as a start

@@ -20,7 +20,7 @@ use Rattle.model.specs.Ready.{Ready}
 use Rattle.model.specs.Events.{Outcome, left}
 use Rattle.model.specs.Monitor.{perform, fitted, refusal, refused_unless}
 use Rattle.model.specs.Told.{no_word}
-use Rattle.model.specs.ReadyLaws.{sound_ready, through}
+use Rattle.model.proofs.ReadyLaws.{sound_ready, through}
 use Rattle.model.specs.contracts.Call.{the_type as the_call}
 use Rattle.model.specs.declared.Call.{Call}
 use Rattle.model.specs.declared.Call.TheVariants.{Start, Read, Write, Execute, Create, CreateRoot, Move, Delete, CallTask, Invoke, Pass, Post, Find, Mark, Step, Spread}

@@ -8,10 +8,10 @@ use Rattle.rows.specs.Size.{numbers}
 use Rattle.records.specs.Records.{BytesLent}
 use Rattle.model.specs.Verdicts.{granted, slipped, row_number, row_path, row_rule, is_done}
 use Rattle.model.specs.State.{Memory, memory, task, object}
-use Rattle.model.specs.StateLaws.{task_used, object_used, used_below}
+use Rattle.model.proofs.StateLaws.{task_used, object_used, used_below}
 use Rattle.model.specs.Effects.{Effect, effect, effects}
 use Rattle.model.specs.Events.{Event, left, unless, verdict_of, outcome}
-use Rattle.model.specs.TableLaws.{refusals, Holds, done_tests}
+use Rattle.model.proofs.TableLaws.{refusals, Holds, done_tests}
 use Rattle.decisions.specs.declared.Decision.{Decision}
 use Rattle.decisions.specs.Decisions.{judged, settled, apart}
 

@@ -11,10 +11,10 @@ use Rattle.model.specs.Ready.{Ready}
 use Rattle.model.specs.Events.{Test, need, Event, Outcome, left, unless, first_failing, verdict_of, outcome}
 use Rattle.model.specs.Monitor.{fitted, perform}
 use Rattle.model.specs.Load.{in_turn}
-use Rattle.model.specs.TableLaws.{refusals, Holds, done_tests}
-use Rattle.model.specs.SoundLaws.{Sound}
-use Rattle.model.specs.LoadLaws.{turn_append, turn_sound}
-use Rattle.model.specs.ReadyLaws.{ready_sound, sound_ready, through}
+use Rattle.model.proofs.TableLaws.{refusals, Holds, done_tests}
+use Rattle.model.proofs.SoundLaws.{Sound}
+use Rattle.model.proofs.LoadLaws.{turn_append, turn_sound}
+use Rattle.model.proofs.ReadyLaws.{ready_sound, sound_ready, through}
 
 -- ---- one call
 

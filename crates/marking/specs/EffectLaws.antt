@@ -15,7 +15,7 @@ use Rattle.model.specs.State.{Memory, memory, in_use, task, object, marked}
 use Rattle.model.specs.Verdicts.{granted, row_number, row_still, is_done}
 use Rattle.model.specs.Effects.{effects, mark_where, object_of, effect, mark_outside, mark_thing}
 use Rattle.model.specs.Events.{Event, outcome, verdict_of, first_failing, unless, step, fed}
-use Rattle.model.specs.SpreadLaws.{Sized}
+use Rattle.model.proofs.SpreadLaws.{Sized}
 use Rattle.marking.specs.Plain.{Plain}
 use Rattle.marking.specs.MarksLaws.{Marks, marks_same, marks_where, marks_then, marks_store}
 

@@ -15,8 +15,8 @@ use Rattle.records.specs.Records.{BytesLent, field, set_field}
 use Rattle.records.specs.RecordLaws.{field_same, field_else, length_field}
 use Rattle.model.specs.State.{Memory, memory, marked}
 use Rattle.model.specs.Effects.{mark_where, object_of}
-use Rattle.model.specs.MarkLaws.{MoreMarks, kept_object, kept_driver, more_then, more_none, where_more, where_length, where_new, where_not}
-use Rattle.model.specs.SpreadLaws.{Sized}
+use Rattle.model.proofs.MarkLaws.{MoreMarks, kept_object, kept_driver, more_then, more_none, where_more, where_length, where_new, where_not}
+use Rattle.model.proofs.SpreadLaws.{Sized}
 
 -- n is m with a mark for each unmarked number that passes
 pub record Marks (m : Memory) (q : ℕ → Bool) (n : Memory) : Type 0 where

@@ -18,8 +18,8 @@ use Rattle.sets.specs.declared.Set.{Set}
 use Rattle.sets.specs.Sets.{has, set_of}
 use Rattle.sets.specs.SetLaws.{in_set}
 use Rattle.model.specs.State.{Memory, object, driver_of, marked}
-use Rattle.model.specs.StateLaws.{object_used}
-use Rattle.model.specs.SpreadLaws.{unmarked}
+use Rattle.model.proofs.StateLaws.{object_used}
+use Rattle.model.proofs.SpreadLaws.{unmarked}
 use Rattle.model.specs.Effects.{object_of}
 use Rattle.marking.specs.Rounds.{Driven, Put, Table, puts, own_row}
 

@@ -13,9 +13,9 @@ use Rattle.sets.specs.Sets.{joined}
 use Rattle.model.specs.State.{Memory, in_use, object, driver_of, marked, has_flow}
 use Rattle.model.specs.Effects.{object_of}
 use Rattle.model.specs.Spread.{reached, driven, round}
-use Rattle.model.specs.StateLaws.{marked_below, object_used}
-use Rattle.model.specs.MarkLaws.{MoreMarks, kept_in_use, kept_object, kept_driver, kept_flow, kept_marked, where_more, where_length}
-use Rattle.model.specs.SpreadLaws.{Sized, by_flows, more_round, marked_flows, marked_round, unmarked}
+use Rattle.model.proofs.StateLaws.{marked_below, object_used}
+use Rattle.model.proofs.MarkLaws.{MoreMarks, kept_in_use, kept_object, kept_driver, kept_flow, kept_marked, where_more, where_length}
+use Rattle.model.proofs.SpreadLaws.{Sized, by_flows, more_round, marked_flows, marked_round, unmarked}
 use Rattle.marking.specs.Rounds.{Table, by_flow, by_driver}
 use Rattle.marking.specs.MarksLaws.{kept_object_of}
 

@@ -16,11 +16,11 @@ use Rattle.sets.specs.Sets.{last, has, set_of, joined}
 use Rattle.sets.specs.SetLaws.{in_set, set_ext, empty_at}
 use Rattle.sets.specs.WalkLaws.{joined_ext}
 use Rattle.model.specs.State.{Memory, in_use, marked}
-use Rattle.model.specs.StateLaws.{object_used, marked_below}
+use Rattle.model.proofs.StateLaws.{object_used, marked_below}
 use Rattle.model.specs.Effects.{mark_where}
 use Rattle.model.specs.Spread.{reached, driven, round, marks_some, rounds, after_rounds, spread}
-use Rattle.model.specs.MarkLaws.{MoreMarks, more_none, more_then, kept_in_use, kept_marked, where_length}
-use Rattle.model.specs.SpreadLaws.{Sized, Closed, sized_more, by_flows, round_only, more_round, marked_round, unmarked, round_fewer, rest_rounds, after_keeps, spread_only}
+use Rattle.model.proofs.MarkLaws.{MoreMarks, more_none, more_then, kept_in_use, kept_marked, where_length}
+use Rattle.model.proofs.SpreadLaws.{Sized, Closed, sized_more, by_flows, round_only, more_round, marked_round, unmarked, round_fewer, rest_rounds, after_keeps, spread_only}
 use Rattle.marking.specs.declared.rounds.Spread.{Spread}
 use Rattle.marking.specs.MarksLaws.{Marks, marks_none, marks_ext, marks_then, marks_where, marks_same, kept_object_of}
 use Rattle.marking.specs.Rounds.{Table, by_flow, by_driver, round_set, spread_sets}

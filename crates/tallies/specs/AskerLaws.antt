@@ -4,7 +4,7 @@ use Rattle.std.specs.Prelude.{◌≡◌, true, false, List, [], ℕ, ◌<◌}
 use Rattle.std.proofs.Common.{sym, ap, ◌∙◌, arith}
 use Rattle.rows.specs.Size.{numbers}
 use Rattle.records.specs.Records.{BytesLent, is_task}
-use Rattle.model.specs.StateLaws.{task_used, used_below}
+use Rattle.model.proofs.StateLaws.{task_used, used_below}
 use Rattle.model.specs.declared.Call.{Call}
 use Rattle.model.specs.State.{memory, task}
 use Rattle.model.specs.Tallies.{if_task, asker}

@@ -23,19 +23,19 @@ use Rattle.model.specs.Events.{Outcome, outcome}
 use Rattle.model.specs.Spread.{spread}
 use Rattle.model.specs.Monitor.{refusal, refused_unless, fitted, start, perform, marked_words, no_report, report}
 use Rattle.model.specs.Tallies.{list_fits}
-use Rattle.model.specs.TableLaws.{Fitted, fitted_done, start_done, by_call, refused_keeps}
+use Rattle.model.proofs.TableLaws.{Fitted, fitted_done, start_done, by_call, refused_keeps}
 use Rattle.script.specs.Script.{no_order, start_word, pieces, is_number, value, same_word, start_of, line_of, read_line, too_many}
 use Rattle.script.specs.declared.Line.{Line}
 use Rattle.script.specs.declared.Line.TheVariants.{Bad, Starts, Asks}
 use Rattle.containment.specs.Lists.{Item, asks, Standing, Role, starting, marking, other, role, entered, next, run, Admitted, Admissible, leaves, begun, by_start}
 use Rattle.containment.specs.Claims.{Contained}
-use Rattle.containment.specs.Trails.{entered_memory}
-use Rattle.containment.specs.Proved.{containment, spread_granted}
+use Rattle.containment.proofs.Trails.{entered_memory}
+use Rattle.containment.proofs.Proved.{containment, spread_granted}
 use Rattle.trail.specs.Lines.{answered, asked, started_with, done_by, line_done}
 use Rattle.trail.specs.Marked.{is_marked, marked_line}
 use Rattle.trail.specs.MarkedLaws.{listed_alike}
 use Rattle.trail.specs.Script.{Progress, lines, zeros, nothing_read, after_line, after_lines, with_marked, at_end, output}
-use Rattle.model.specs.TallyLaws.{zeroed_fits, call_out, call_left_fits, start_counted}
+use Rattle.model.proofs.TallyLaws.{zeroed_fits, call_out, call_left_fits, start_counted}
 use Rattle.trail.specs.Feeding.{nothing_fed}
 use Rattle.trail.specs.FeedingLaws.{written_is, whole, closed_whole}
 use Rattle.trail.specs.Claims.{joined, InPieces, EndsAlike, ListsMarked, calls_by, calls_of, calls, unstarted, standing, Begun, RunsLists, ScriptContained, OverSixteen}

@@ -4,7 +4,7 @@ use borrow.Author.Rules.{rules}
 use borrow.Author.Tests.{eqb-true, not-true, not-false}
 use Rattle.records.specs.Records.{is_task}
 use Rattle.model.specs.State.{memory, task}
-use Rattle.model.specs.StateLaws.{task_used, used_below}
+use Rattle.model.proofs.StateLaws.{task_used, used_below}
 use Rattle.model.specs.Effects.{effects}
 use Rattle.model.specs.Events.{verdict_of, first_failing, unless, mark}
 use Rattle.marking.specs.EffectLaws.{sound_plain, made, refused}

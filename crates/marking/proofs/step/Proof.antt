@@ -3,10 +3,10 @@ use mathlib.Core.Bool.{and-eq-true_iff}
 use borrow.Author.Rules.{rules}
 use borrow.Author.Tests.{eqb-true, not-true, not-false}
 use Rattle.model.specs.State.{memory, marked}
-use Rattle.model.specs.StateLaws.{used_below}
+use Rattle.model.proofs.StateLaws.{used_below}
 use Rattle.model.specs.Effects.{effects}
 use Rattle.model.specs.Events.{step}
-use Rattle.model.specs.TableLaws.{done_tests}
+use Rattle.model.proofs.TableLaws.{done_tests}
 use Rattle.marking.specs.EffectLaws.{sound_plain, made, refused, step_refused}
 use Rattle.marking.proofs.step.Statement.{statement}
 use Rattle.marking.proofs.step.Tie as tie

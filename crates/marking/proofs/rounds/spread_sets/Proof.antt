@@ -12,7 +12,7 @@ use Rattle.rows.specs.Size.{row_size, numbers}
 use Rattle.rows.specs.RowLaws.{cell_zeros}
 use Rattle.sets.specs.Sets.{last, has, set_of}
 use Rattle.model.specs.State.{memory, in_use, marked}
-use Rattle.model.specs.SpreadLaws.{unmarked}
+use Rattle.model.proofs.SpreadLaws.{unmarked}
 use Rattle.marking.specs.Rounds.{Table}
 use Rattle.marking.specs.OwnedLaws.{owned_table}
 use Rattle.marking.specs.SpreadingLaws.{Spreading, unmarked_set, spreading_first, spreading_below, spreading_next, spreading_end, sets_none}

@@ -1,0 +1,16 @@
+pub mod StateLaws
+pub mod WalkLaws
+pub mod InsideLaws
+pub mod MarkLaws
+pub mod SpreadLaws
+pub mod TrialsProved
+pub mod LoadTrialProved
+pub mod TallyTrialsProved
+pub mod TableLaws
+pub mod EffectLaws
+pub mod SoundLaws
+pub mod LoadLaws
+pub mod TallyLaws
+pub mod ToldLaws
+pub mod ReadyLaws
+pub mod RiskLaws
