@@ -1,4 +1,5 @@
 // What a deletion keeps of the trail: each thing that fed the object, and its driver, goes on to feed each thing that the object fed.
+#![tactic(auto)]
 ghost use Rattle.std.specs.Prelude.{◌≡◌, true, ◌<◌};
 ghost use Rattle.rows.specs.Size.{numbers, WordsLent};
 ghost use Rattle.records.specs.Records.{BytesLent, driver, is_object};

@@ -1,1 +1,2 @@
 // The statements of what the calls keep, and their proofs. No code.
+#![tactic(auto)]

@@ -1,4 +1,5 @@
 // Marking: mark and step, the spread, and the report of what is marked.
+#![tactic(auto)]
 mod marks;
 mod rounds;
 

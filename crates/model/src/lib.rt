@@ -1,4 +1,5 @@
 // The types of the monitor's face: calls, answers, tally records and the report.
+#![tactic(auto)]
 
 // A call with its numbers, told by document 01's letters. Levels are as wide as thing numbers, so that what a caller names reaches
 // the rules uncut.

@@ -1,4 +1,5 @@
 // The records of the numbers, and the test that the bytes are sound.
+#![tactic(auto)]
 ghost use Rattle.std.specs.Prelude.{◌≡◌, true, false, List, ℕ, ◌+◌, ◌*◌, ◌%◌, ◌≤◌, ◌<◌, length, replicate};
 ghost use Rattle.records.specs.Records as model;
 ghost use Rattle.rows.specs.Size.{numbers};

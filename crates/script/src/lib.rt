@@ -1,4 +1,5 @@
 // Reading a line of a script.
+#![tactic(auto)]
 mod calls;
 mod pieces;
 pub mod print;

@@ -1,4 +1,5 @@
 // What the driver is told of a call: yes, no, or nothing.
+#![tactic(auto)]
 ghost use Rattle.std.specs.Prelude.{◌≡◌};
 ghost use Rattle.model.specs.Told as model;
 ghost use Rattle.model.specs.Told.{yes_or_no};
