@@ -15,7 +15,8 @@ ghost use Rattle.trail.specs.Feeding.{line_size, after_piece, emptied};
 ghost use Rattle.trail.specs.Buffers.{Sized, reading_in, SomeInput, SomeScript};
 
 use feeding::State;
-use libc::{STDIN_FILENO, STDOUT_FILENO};
+use std::io;
+use std::io::{Read, Stderr, Stdin, Stdout, Write};
 
 // The longest piece of input, and room for its answers: eight bytes for each byte of it.
 const IN: usize = 16384;
@@ -41,16 +42,37 @@ struct Ended {
     ok: bool,
 }
 
-fn write_out(out: &[u8]) -> bool {
-    let is_written = io::write_all(STDOUT_FILENO, out);
-    if !is_written {
-        os::fail(b"standard output");
+// The standard streams.
+#[derive(Clone, Copy)]
+struct Streams {
+    input: Stdin,
+    output: Stdout,
+    errors: Stderr,
+}
+
+// Says on standard error which stream failed, and how. Where that fails too, nobody can be told.
+fn fail(streams: Streams, which: &str, error: io::Error) {
+    let mut errors = streams.errors;
+    match writeln!(errors; "{which}: {error}") {
+        Ok(()) => (),
+        Err(_) => (),
     }
-    is_written
+}
+
+fn write_out(streams: Streams, out: &[u8]) -> bool {
+    let mut output = streams.output;
+    match output.write_all(out) {
+        Ok(()) => true,
+        Err(error) => {
+            fail(streams, "standard output", error);
+            false
+        }
+    }
 }
 
 // Reads a piece, feeds it and writes its answers.
 fn read_piece(
+    streams: Streams,
     input: &mut [u8],
     line: &mut [u8],
     out: &mut [u8],
@@ -63,22 +85,30 @@ fn read_piece(
     ensures { (reading_in result.state line.new out.new bytes.new words.new counts.new ≡ emptied (after_piece (take result.fed input.new) (reading_in state line.old out.old bytes.old words.old counts.old)))
         × (result.state.filled ≤ line_size) × (result.state.used ≡ 0) }
 {
-    let got = libc::read(STDIN_FILENO, input);
-    if got <= 0 {
-        if got < 0 {
-            os::fail(b"standard input");
+    let mut stdin = streams.input;
+    let n = match stdin.read(input) {
+        Ok(n) => n,
+        Err(error) => {
+            fail(streams, "standard input", error);
+            return Turn {
+                state,
+                fed: 0,
+                more: false,
+                ok: false,
+            };
         }
+    };
+    if n == 0 {
         return Turn {
             state,
             fed: 0,
             more: false,
-            ok: got == 0,
+            ok: true,
         };
     }
-    let n = io::count(got, input);
     let next = feeding::feed(&input[..n], line, out, bytes, words, counts, state);
     let used = next.used;
-    let ok = write_out(&out[..used]);
+    let ok = write_out(streams, &out[..used]);
     Turn {
         state: feeding::emptied(next),
         fed: n,
@@ -90,6 +120,7 @@ fn read_piece(
 // A proved loop has to end, and nothing says that the input does. So the loop counts its turns down, from a number that no run uses
 // up; past it the script would end as at the end of its input.
 fn read_all(
+    streams: Streams,
     input: &mut [u8],
     line: &mut [u8],
     out: &mut [u8],
@@ -110,7 +141,7 @@ fn read_all(
     let mut turns = u64::MAX;
     while turns > 0 && last.more {
         let state = last.state;
-        last = read_piece(input, line, out, bytes, words, counts, state);
+        last = read_piece(streams, input, line, out, bytes, words, counts, state);
         turns -= 1;
     }
     last
@@ -118,6 +149,7 @@ fn read_all(
 
 // The whole script, but for the writing of what is printed at its end.
 fn run(
+    streams: Streams,
     input: &mut [u8],
     line: &mut [u8],
     out: &mut [u8],
@@ -129,7 +161,7 @@ fn run(
     ensures { (result.ok ≡ true → SomeScript result.used out.new bytes.new words.new counts.new)
         × (result.used ≤ length out.new) }
 {
-    let last = read_all(input, line, out, bytes, words, counts);
+    let last = read_all(streams, input, line, out, bytes, words, counts);
     if !last.ok {
         return Ended { used: 0, ok: false };
     }
@@ -141,7 +173,12 @@ fn run(
     }
 }
 
-fn main() {
+fn main(rt: HostRuntime) {
+    let streams = Streams {
+        input: rt.stdin(),
+        output: rt.stdout(),
+        errors: rt.stderr(),
+    };
     let mut bytes = [0u8; records::BYTES];
     let mut words = [0u64; rows::WORDS];
     let mut counts = [0u32; TALLIES];
@@ -149,6 +186,7 @@ fn main() {
     let mut line = [0u8; feeding::KEPT];
     let mut out = [0u8; OUT];
     let end = run(
+        streams,
         &mut input,
         &mut line,
         &mut out,
@@ -158,6 +196,6 @@ fn main() {
     );
     if end.ok {
         let used = end.used;
-        write_out(&out[..used]);
+        write_out(streams, &out[..used]);
     }
 }
