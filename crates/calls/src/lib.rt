@@ -30,7 +30,7 @@ use tallies::Entry;
 
 // A call as a C caller writes it: its code, and its numbers in the call's order.
 #[repr(C)]
-#[derive(Drop)]
+#[derive(Clone, Copy)]
 pub struct Request {
     pub code: u16,
     pub a: u16,

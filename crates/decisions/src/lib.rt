@@ -10,7 +10,7 @@ pub mod facts;
 use model::{GRANTED, PATH, RULE, SLIPPED};
 
 // The verdict that the level tests give, and which of the event's flows, at most two, are recorded.
-#[derive(Drop)]
+#[derive(Clone, Copy)]
 pub struct Decision {
     pub verdict: u8,
     pub first: bool,

@@ -8,14 +8,14 @@ ghost use Rattle.layout.specs.Quick.{quad_at, IsWord, QuickField, QuickHead, Qui
 use bits::join;
 
 // A number and where it ends, or where the reader leaves.
-#[derive(Drop)]
+#[derive(Clone, Copy)]
 pub enum Field {
     Number { value: u16, end: usize },
     Missing { at: usize },
 }
 
 // An object's numbers and where they end, or where the reader leaves.
-#[derive(Drop)]
+#[derive(Clone, Copy)]
 pub enum Heading {
     Holds {
         number: u16,
@@ -29,7 +29,7 @@ pub enum Heading {
 }
 
 // A task's numbers and where its form ends, or where the reader leaves.
-#[derive(Drop)]
+#[derive(Clone, Copy)]
 pub enum Running {
     Runs {
         number: u16,

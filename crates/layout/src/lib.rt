@@ -11,14 +11,14 @@ pub mod fields;
 use fields::{Heading, Running, head_at, is_at, left_head, left_task, task_at};
 
 // Where what is read ends, and whether a ninth level stands in it; or where the reader leaves.
-#[derive(Drop)]
+#[derive(Clone, Copy)]
 pub enum Answer {
     Read { end: usize, deep: bool },
     Unread { at: usize },
 }
 
 // What a text settles before any call: a layout, or the place of its fault.
-#[derive(Drop)]
+#[derive(Clone, Copy)]
 pub enum Text {
     Fits,
     Broken { at: usize },

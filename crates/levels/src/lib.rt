@@ -7,7 +7,7 @@ ghost use Rattle.levels.specs.LevelSet.{with_level, set_fits};
 ghost use Rattle.levels.specs.OrderRows.{RowsFit, closed, AllCovered, Passed, row_fits, level_passes, LevelCovered, rest_empty, rows_pass};
 
 #[repr(C)]
-#[derive(Drop)]
+#[derive(Clone, Copy)]
 pub struct Order {
     pub rows: [u16; 16],
     pub count: u16,
@@ -38,7 +38,7 @@ pub fn row_of(order: Order, a: u16) -> u16
 }
 
 // The rows of a task's level and of its read level.
-#[derive(Drop)]
+#[derive(Clone, Copy)]
 pub struct Rows {
     pub level: u16,
     pub read: u16,

@@ -67,7 +67,7 @@ fn create(
 }
 
 // What a form comes to: where the text goes on, or the verdict that ends it.
-#[derive(Drop)]
+#[derive(Clone, Copy)]
 pub enum Turn {
     GoesOn { end: usize },
     Ends { verdict: u8 },

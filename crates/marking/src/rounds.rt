@@ -84,7 +84,7 @@ fn round(words: &[u64], owned: &[u64], unmarked: Set, sources: Set) -> Set
 }
 
 // What a spread marks, and by how many rounds.
-#[derive(Drop)]
+#[derive(Clone, Copy)]
 pub struct Spread {
     pub marked: Set,
     pub rounds: u8,

@@ -3,7 +3,7 @@
 
 // A call with its numbers, told by document 01's letters. Levels are as wide as thing numbers, so that what a caller names reaches
 // the rules uncut.
-#[derive(Drop)]
+#[derive(Clone, Copy)]
 pub enum Call {
     Start,
     // e, d, o: the task e reads the object o through its driver d.
@@ -39,7 +39,7 @@ pub enum Call {
 
 // What a call answers: a verdict of the table, the rounds of a spread, and the word that the driver is told.
 #[repr(C)]
-#[derive(Drop)]
+#[derive(Clone, Copy)]
 pub struct Answer {
     pub verdict: u8,
     pub rounds: u8,
@@ -57,7 +57,7 @@ pub struct Tally {
 
 // A bit for each marked number, and how many ones the words hold.
 #[repr(C)]
-#[derive(Drop)]
+#[derive(Clone, Copy)]
 pub struct Report {
     pub words: [u64; rows::ROW_WORDS],
     pub ones: u32,
@@ -66,7 +66,7 @@ pub struct Report {
 
 // What a load would answer to a text before any call, and where the reader left: past the end of a text that is fit.
 #[repr(C)]
-#[derive(Drop)]
+#[derive(Clone, Copy)]
 pub struct Checked {
     pub offset: u32,
     pub verdict: u8,

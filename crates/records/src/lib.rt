@@ -167,7 +167,7 @@ fn kind_at(bytes: &[u8], x: usize) -> u8
 
 // What all records passed by have shown, gathered by `or` and by `and`: one test of it at the end is the test of each record, so
 // that few branches hang on what a record holds.
-#[derive(Drop)]
+#[derive(Clone, Copy)]
 struct Seen {
     // The objects' records, and all others.
     objects: usize,

@@ -13,7 +13,7 @@ use model::Call;
 use pieces::Found;
 
 // What a line is, but for a start's order, which stands beside it.
-#[derive(Drop)]
+#[derive(Clone, Copy)]
 pub enum Line {
     // No call: it prints bad and does nothing.
     Bad,
@@ -23,7 +23,7 @@ pub enum Line {
 }
 
 // A line that was read, and the order of a start; of any other line the order is all zero.
-#[derive(Drop)]
+#[derive(Clone, Copy)]
 pub struct Parsed {
     pub line: Line,
     pub order: Order,

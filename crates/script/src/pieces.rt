@@ -10,21 +10,21 @@ const MOST_DIGITS: usize = 5;
 const MOST_NUMBERS: usize = 16;
 
 // The number that stands in a piece.
-#[derive(Drop)]
+#[derive(Clone, Copy)]
 pub enum Value {
     Is(u16),
     None,
 }
 
 // The next number of a line, and where it ends.
-#[derive(Drop)]
+#[derive(Clone, Copy)]
 pub enum Found {
     Number { value: u16, end: usize },
     Nothing,
 }
 
 // All that is left of a line, where that is at most sixteen numbers: zeros follow them.
-#[derive(Drop)]
+#[derive(Clone, Copy)]
 pub struct Numbers {
     pub values: [u16; 16],
     pub count: usize,

@@ -11,7 +11,7 @@ ghost use Rattle.records.specs.Records.{record_size, BytesLent, field};
 ghost use Rattle.sets.specs.Sets.{last, Within, has, set_of, in_word, joined, TableLent};
 
 // Number x is bit x of the low word, or bit x - 64 of the high one.
-#[derive(Drop)]
+#[derive(Clone, Copy)]
 pub struct Set {
     pub low: u64,
     pub high: u64,

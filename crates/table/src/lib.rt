@@ -8,7 +8,7 @@ ghost use Rattle.table.specs.Table.{operations, operation_at, setting, settings,
 use decisions::{Decision, settled};
 
 // The eight operations whose decisions are looked up.
-#[derive(Drop)]
+#[derive(Clone, Copy)]
 pub enum Operation {
     Read,
     Write,

@@ -16,7 +16,7 @@ pub const COUNTS: usize = 3;
 
 // What a call answers, the number whose record counts it, and whether the list begins anew: it is then zeroed first. In this
 // order it has six bytes; with eight, the compiler would pack it into one word and take it apart again.
-#[derive(Drop)]
+#[derive(Clone, Copy)]
 pub struct Entry {
     pub number: u16,
     pub anew: bool,

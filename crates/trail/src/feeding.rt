@@ -13,7 +13,7 @@ use script::print;
 pub const KEPT: usize = 128;
 
 // Where the reading stands.
-#[derive(Drop)]
+#[derive(Clone, Copy)]
 pub struct State {
     pub order: Order,
     // How much of the open line is kept, and of the output is not written yet.
@@ -22,7 +22,7 @@ pub struct State {
 }
 
 // What is left by lines alone.
-#[derive(Drop)]
+#[derive(Clone, Copy)]
 pub struct Answered {
     pub order: Order,
     pub used: usize,

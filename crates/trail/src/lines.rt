@@ -10,7 +10,7 @@ use script::Line;
 use script::print::Reply;
 
 // What answers a line, and the order that is kept for the next: that of the last granted start.
-#[derive(Drop)]
+#[derive(Clone, Copy)]
 pub struct Done {
     pub reply: Reply,
     pub order: Order,

@@ -27,7 +27,7 @@ const OUT: usize = 131072;
 const TALLIES: usize = tallies::COUNTS * records::RECORDS;
 
 // What a turn comes to: how much of the input buffer was fed, whether more may be read, and whether no read and no write has failed.
-#[derive(Drop)]
+#[derive(Clone, Copy)]
 struct Turn {
     state: State,
     fed: usize,
@@ -36,7 +36,7 @@ struct Turn {
 }
 
 // What the end comes to: how much of the output is left to be written, and whether no read and no write has failed.
-#[derive(Drop)]
+#[derive(Clone, Copy)]
 struct Ended {
     used: usize,
     ok: bool,
@@ -53,7 +53,7 @@ struct Streams {
 // Says on standard error which stream failed, and how. Where that fails too, nobody can be told.
 fn fail(streams: Streams, which: &str, error: io::Error) {
     let mut errors = streams.errors;
-    match writeln!(errors; "{which}: {error}") {
+    match writeln!(errors, "{which}: {error}") {
         Ok(()) => (),
         Err(_) => (),
     }
