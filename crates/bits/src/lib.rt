@@ -1,5 +1,6 @@
 // Bits and bytes of words: a bit, a word with one bit, how many ones a word has, its lowest one; four bytes as one number.
 #![tactic(auto)]
+
 ghost use Rattle.std.specs.Prelude.{◌≡◌, ◌<◌, ◌^◌};
 ghost use Rattle.std.specs.Int.Count.{ones, count_trailing_zeros};
 ghost use Rattle.bits.specs.Bit.{bit, joined};
