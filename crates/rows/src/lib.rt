@@ -1,5 +1,6 @@
 // Rows of bits in lent words: ROW_WORDS words a row, one row after the other. Column c of a row is bit c % 64 of its word c / 64.
 #![tactic(auto)]
+
 ghost use Rattle.std.specs.Prelude.{◌≡◌, cond, ◌+◌, ◌*◌, ◌/◌, ◌≤◌, ◌<◌, length, get_or, set, replicate};
 ghost use Rattle.rows.specs.Rows.{place, cell, add_cell, cut_cell, clear_row, clear_column, clear_thing};
 ghost use Rattle.rows.specs.Size.{row_size, numbers, tables, WordsLent};
