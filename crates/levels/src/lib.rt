@@ -1,5 +1,6 @@
 // The order of the levels, by value.
 #![tactic(auto)]
+
 ghost use Rattle.std.specs.Prelude.{◌≡◌, true, false, cond, ◌≤◌, ◌<◌, ltb, get_or};
 ghost use Rattle.bits.specs.Bit.{bit};
 ghost use Rattle.levels.specs.Order.{most_levels, row_of, at_or_below, order_passes};
