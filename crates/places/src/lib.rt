@@ -1,5 +1,6 @@
 // Where an object lies: going from container to container.
 #![tactic(auto)]
+
 ghost use Rattle.std.specs.Prelude.{◌≡◌};
 ghost use Rattle.places.specs.Places.{bytes_inside};
 
