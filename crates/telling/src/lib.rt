@@ -1,5 +1,6 @@
 // What the driver is told of a call: yes, no, or nothing.
 #![tactic(auto)]
+
 ghost use Rattle.std.specs.Prelude.{◌≡◌};
 ghost use Rattle.model.specs.Told as model;
 ghost use Rattle.model.specs.Told.{yes_or_no};
@@ -7,6 +8,7 @@ ghost use Rattle.model.specs.Told.{yes_or_no};
 use model::Call;
 
 // Yes for what is granted, and no for all else, a slip too.
+#[tactic(auto, unfolding(model::specs::Told::yes_or_no))]
 fn yes_or_no(verdict: u8) -> u8
     ensures { result ≡ yes_or_no verdict }
 {
