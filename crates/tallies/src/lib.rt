@@ -1,5 +1,6 @@
 // The lists of tallies: who asks, and how a call is entered in the list that it is lent.
 #![tactic(auto)]
+
 ghost use Rattle.std.specs.Prelude.{◌≡◌, List, ℕ, ◌+◌, ◌*◌, ◌<◌, ◌≤◌, length};
 ghost use Rattle.rows.specs.Size.{numbers};
 ghost use Rattle.records.specs.Records.{BytesLent};
@@ -24,6 +25,7 @@ pub struct Entry {
 }
 
 // One more, stopping at the most that 32 bits hold.
+#[tactic(auto, unfolding(model::specs::Tallies::one_more))]
 fn one_more(n: u32) -> u32
     ensures { result ≡ one_more n }
 {
@@ -31,6 +33,7 @@ fn one_more(n: u32) -> u32
 }
 
 // The record with a verdict counted.
+#[tactic(auto, unfolding(model::specs::Tallies::raised))]
 fn raise(tally: Tally, verdict: u8) -> Tally
     ensures { result ≡ raised tally verdict }
 {
@@ -62,6 +65,7 @@ fn raise(tally: Tally, verdict: u8) -> Tally
 }
 
 // The number, if it names a task; otherwise 0.
+#[tactic(auto, using(crate::specs::AskerLaws::a_task, crate::specs::AskerLaws::no_task))]
 fn if_task(bytes: &[u8], x: u16) -> u16
     requires { BytesLent bytes.now }
     ensures { ((ws : List ℕ) → result ≡ if_task (memory bytes.now ws) x) × (result < numbers) }
@@ -119,6 +123,7 @@ pub fn enter(tallies: &mut [Tally], entry: Entry)
 }
 
 // How many records a list of plain numbers holds, three numbers to a record; one or two left over belong to none.
+#[tactic(auto, using(crate::specs::CountLaws::records_count))]
 pub fn records_in(counts: &[u32]) -> usize
     ensures { result ≡ length (records_in counts.now) }
 {
