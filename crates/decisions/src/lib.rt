@@ -1,5 +1,6 @@
 // What the level tests and the marks of an event settle, from yes-or-no facts alone.
 #![tactic(auto)]
+
 ghost use Rattle.std.specs.Prelude.{◌≡◌};
 ghost use Rattle.model.specs.Events as model;
 ghost use Rattle.decisions.specs.Decisions.{read_decision, write_decision, move_decision, delete_decision, call_decision, invoke_decision, relay_decision, settled, apart};

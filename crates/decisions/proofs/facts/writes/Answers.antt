@@ -1,0 +1,6 @@
+use Rattle.decisions.specs.Facts.{writes}
+use Rattle.decisions.proofs.facts.writes.Goals as goal
+
+pub returns : goal.returns
+unfolding writes
+returns c = cc
