@@ -1,5 +1,6 @@
 // The decision table, and the two engines: by the table, and by the plain rules.
 #![tactic(auto)]
+
 ghost use Rattle.std.specs.Prelude.{◌≡◌, true, false, ◌<◌};
 ghost use Rattle.bits.specs.All.{one};
 ghost use Rattle.decisions.specs.Decisions.{settled, read_decision, write_decision, move_decision, delete_decision, call_decision, invoke_decision, relay_decision};
