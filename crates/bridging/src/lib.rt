@@ -1,5 +1,6 @@
 // What a deletion keeps of the trail: each thing that fed the object, and its driver, goes on to feed each thing that the object fed.
 #![tactic(auto)]
+
 ghost use Rattle.std.specs.Prelude.{◌≡◌, true, ◌<◌};
 ghost use Rattle.rows.specs.Size.{numbers, WordsLent};
 ghost use Rattle.records.specs.Records.{BytesLent, driver, is_object};
@@ -23,7 +24,7 @@ fn fed_by(bytes: &[u8], words: &[u64], x: u16) -> Set
         return row;
     }
     let used = sets::with_field(bytes, KIND as usize);
-    sets::common(sets::but(used, x), row)
+    sets::common(sets::but(row, x), row)
 }
 
 // x is marked and feeds an unmarked thing.
