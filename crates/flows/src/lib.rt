@@ -1,5 +1,6 @@
 // The events of flows alone: call, invoke, pass, post and find, each equal to its table in the model, whichever engine decides.
 #![tactic(auto)]
+
 ghost use Rattle.std.specs.Prelude.{◌≡◌, ◌&&◌};
 ghost use Rattle.records.specs.Records.{is_task};
 ghost use Rattle.model.specs.State.{memory};
