@@ -1,5 +1,6 @@
 // The events that make things: execute, create and create a root, each equal to its table in the model.
 #![tactic(auto)]
+
 ghost use Rattle.std.specs.Prelude.{◌≡◌};
 ghost use Rattle.model.specs.State.{memory};
 ghost use Rattle.model.specs.Ready.{Ready};

@@ -1,8 +1,4 @@
-use mathlib.Core.Path.{◌≡◌, refl}
-use mathlib.Core.Bool.{Bool, false, ◌&&◌}
-use Prim.Native.Nat.{ℕ}
-use lib.Dec.{ltb}
-use borrow.Author.Rules.{rules}
+use Rattle.std.proofs.Common.{◌≡◌, refl, Bool, false, ◌&&◌, ℕ, ltb}
 use Rattle.rows.specs.Size.{numbers}
 use Rattle.levels.specs.declared.Order.{Order}
 use Rattle.levels.specs.Order.{in_order, at_or_below}
@@ -11,8 +7,7 @@ use Rattle.model.specs.State.{Memory, task, object, level_of, marked}
 use Rattle.model.specs.Events.{unless}
 use Rattle.creation.specs.Judged.{given, execute_judged}
 use Rattle.creation.specs.CreationLaws.{execute_verdict}
-use Rattle.creation.proofs.judge.execute.Statement.{statement}
-use Rattle.creation.proofs.judge.execute.Tie as tie
+use Rattle.creation.proofs.judge.execute.Goals as goal
 
 -- the decision, from its parts: the numbers, the rows below, and the flow
 execute-is : (o : Order) (m : Memory) (c i n l r : ℕ) {v row : ℕ} {named flow : Bool}
@@ -23,21 +18,10 @@ execute-is : (o : Order) (m : Memory) (c i n l r : ℕ) {v row : ℕ} {named flo
     → record { verdict = v; first = flow; second = false } ≡ execute_judged o m c i n l r
 execute-is o m c i n l r v named row flow = rw (v, named, row, flow, execute_verdict o m c i n l r)
 
-returns : tie.Need-returns
+pub returns : goal.returns
 unfolding task object marked
 returns c =
-    λ ws. execute-is _ _ _ _ _ _ _ c.before.given.ensures
-    (simp (c.before.before.before.before.before.before.is_object_law.ensures, c.before.before.before.before.before.before.before.is-task.ensures) refl)
-    (simp (
-      c.before.before.unless2.ensures,
-      c.before.before.before.unless.ensures,
-      c.before.before.before.before.at-or-below.ensures,
-      c.before.before.before.before.before.level-below.ensures,
-    ) refl)
+    λ ws. execute-is _ _ _ _ _ _ _ c.given.ensures
+    (simp (c.is_object.ensures, c.is_task.ensures) refl)
+    (simp (c.unless-row.ensures, c.unless.ensures, c.at_or_below.ensures, c.level_below.ensures) refl)
     c.marked.ensures
-
-pub execute-spec : {M : Type 1} → statement M
-execute-spec =
-    tie.close
-    (tie.spec (λ c κs. search rules) (λ c κs. search rules) (λ c κs. search rules) (λ c κs. search rules) (λ c κs. search rules)
-    (λ c κs. search rules) (λ c κs. search rules) (λ c κs. search rules) returns)
