@@ -1,5 +1,6 @@
 // The events on objects: read, write, move and delete, each equal to its table in the model, whichever engine decides.
 #![tactic(auto)]
+
 ghost use Rattle.std.specs.Prelude.{◌≡◌};
 ghost use Rattle.model.specs.State.{memory};
 ghost use Rattle.model.specs.Ready.{Ready};
