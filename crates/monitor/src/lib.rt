@@ -1,5 +1,6 @@
 // The monitor's public face, by the decision table: every call and load with its list of tallies, the report, and what C and Rust link.
 #![tactic(auto)]
+
 ghost use Rattle.std.specs.Prelude.{◌≡◌, eqb};
 ghost use Rattle.rows.specs.Size.{numbers};
 ghost use Rattle.model.specs.Verdicts.{row_state};

@@ -1,5 +1,6 @@
 // Calls and loads by the plain rules, for C and Rust to link beside the monitor: the list of tallies is lent as plain numbers, three to a record. And the decision table's entries by these rules, for whoever prints the table.
 #![tactic(auto)]
+
 ghost use Rattle.std.specs.Prelude.{◌≡◌, ◌<◌};
 ghost use Rattle.bits.specs.All.{one};
 ghost use Rattle.model.specs.State.{memory};
