@@ -13,7 +13,7 @@ fn main() {
     println!("cargo::rerun-if-changed={}", library.display());
     assert!(
         library.is_file(),
-        "{} is missing: build it at the root of the repository with 'rt staticlib monitor', \
+        "{} is missing: build it at the root of the repository with 'tools/build monitor', \
          or name the folder that has it in {FOLDER}",
         library.display()
     );

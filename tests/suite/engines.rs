@@ -26,7 +26,7 @@ use tupehiwo_tests::worlds::{self, FAILING, FLAT, Q, SHORT, numbers};
 
 // ------------------------------------------------------------ the plain rules' engine
 
-// 'rt staticlib plain' builds it beside libmonitor.a.
+// 'tools/build plain' builds it beside libmonitor.a.
 #[link(name = "plain", kind = "static")]
 unsafe extern "C" {
     /// As `tupehiwo_perform`, with the list lent as numbers, three to a record.

@@ -13,7 +13,7 @@ use tupehiwo_tests::{in_repository, text_of};
 
 const PAGE: &str = "docs/DECISION-TABLE.md";
 
-// 'rt staticlib plain' builds it beside libmonitor.a.
+// 'tools/build plain' builds it beside libmonitor.a.
 #[link(name = "plain", kind = "static")]
 unsafe extern "C" {
     /// What has to stand in the table: operations by number in its order, and fact i being bit i
