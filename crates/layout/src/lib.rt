@@ -1,5 +1,6 @@
 // Whether a text is a layout's, and how deep its objects nest. The text is read in place.
 #![tactic(auto)]
+
 ghost use Rattle.std.specs.Prelude.{◌≡◌, ◌≤◌, length, drop};
 ghost use Rattle.layout.specs.Layout.{most_deep};
 ghost use Rattle.layout.specs.Reading.{object_at, objects_at, form_at, opened, ninth_from, settled};

@@ -1,0 +1,8 @@
+use Rattle.layout.specs.PlaceLaws.{stands_past, stands_is}
+use Rattle.layout.proofs.fields.is_at.Goals as goal
+
+pub returns-then-at-text : goal.returns-then-at-text
+returns-then-at-text c = stands_past c.args.text.now c.args.at c.args.b c.if-at-text.true
+
+pub returns : goal.returns
+returns c = stands_is c.args.text.now c.args.at c.args.b c.if-at-text.false

@@ -1,0 +1,21 @@
+use Rattle.std.proofs.Common.{arith}
+use Rattle.layout.specs.SettledLaws.{ninth_here, ninth_on, ninth_past, opened_within}
+use Rattle.layout.proofs.ninth.Goals as goal
+
+pub returns-then-b-held : goal.returns-then-b-held
+returns-then-b-held c =
+    let w = c.loop-at in
+    let e = ninth_here c.args.text.now w.at w.held c.loop-at-test.true c.if-b-held.true in
+    omega (arith, w.invariant.2)
+
+pub loop-at-preserved : goal.loop-at-preserved
+loop-at-preserved c =
+    let w = c.loop-at in
+    let e = ninth_on c.args.text.now w.at w.held c.loop-at-test.true c.if-b-held.false in
+    (omega arith, rw c.opened_by-held.ensures (opened_within w.held _ w.invariant.1 c.if-b-held.false), rw c.opened_by-held.ensures (omega (arith, w.invariant.2)))
+
+pub returns : goal.returns
+returns c =
+    let w = c.loop-at in
+    let e = ninth_past c.args.text.now w.at w.held c.loop-at-test.false in
+    omega (arith, w.invariant.2)
