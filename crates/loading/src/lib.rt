@@ -1,5 +1,6 @@
 // The calls of a layout's text, made as they are come upon: a second reading, after the one that has settled form and depth.
 #![tactic(auto)]
+
 ghost use Rattle.std.specs.Prelude.{◌≡◌, List, [], ◌∷◌, ◌+◌, ◌*◌, ◌≤◌, length, drop};
 ghost use Rattle.layout.specs.Layout.{most_deep};
 ghost use Rattle.model.specs.State.{memory};
