@@ -367,7 +367,7 @@ fn levels_fit(bytes: &[u8], count: usize) -> bool
         any = any | (word(bytes, x) % 0x100_0000 + rise);
         x += 1;
     }
-    (any / 0x8000 % 2 == 0) & (any / 0x8000 % 2 == 0)
+    (any / 0x8000 % 2 == 0) & (any / 0x80_0000 % 2 == 0)
 }
 
 // The four groups from x on are free: one test for 32 records.
