@@ -52,7 +52,7 @@ pub fn read(bytes: &[u8], order: Order, engine: Engine, e: u16, d: u16, x: u16) 
     ensures { (ws : List ℕ) → result ≡ read_judged order (memory bytes.now ws) e d x }
 {
     let mut judged = read_decided(bytes, order, engine, e, d, x);
-    let rule = apart(below(bytes, order, d, x), judged.verdict);
+    let rule = apart(below(bytes, order, x, d), judged.verdict);
     judged.verdict = driven(bytes, true, d, x, rule);
     judged
 }
