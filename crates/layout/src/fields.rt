@@ -210,7 +210,7 @@ fn task_by_bytes(text: &[u8], at: usize) -> Running
         };
     };
     if !is_at(text, end, b')') {
-        return Running::Idle { at };
+        return Running::Idle { at: end };
     }
     Running::Runs {
         number,
