@@ -82,7 +82,7 @@ pub fn are_named(bytes: &[u8], e: u16, d: u16, x: u16) -> bool
     if !records::is_task(bytes, e) {
         return false;
     }
-    if !records::is_task(bytes, e) {
+    if !records::is_task(bytes, d) {
         return false;
     }
     records::is_object(bytes, x)
