@@ -24,7 +24,7 @@ fn fed_by(bytes: &[u8], words: &[u64], x: u16) -> Set
         return row;
     }
     let used = sets::with_field(bytes, KIND as usize);
-    sets::common(sets::but(row, x), row)
+    sets::common(sets::but(used, x), row)
 }
 
 // x is marked and feeds an unmarked thing.
