@@ -114,7 +114,8 @@ def turn_source(t, to):
 
 
 def turn_edit(t, to):
-    return re.sub(r"(?<![\w'-])[a-z][\w'-]*(?![\w'-])", lambda m: to.get(m.group(0), m.group(0)), t)
+    """An edit is of code as often as of specs/, so a name that the port made stays."""
+    return re.sub(r"(?<![\w'-])[a-z][\w'-]*(?![\w'-])", lambda m: m.group(0) if m.group(0) in TAKEN else to.get(m.group(0), m.group(0)), t)
 
 
 def record_fields():
