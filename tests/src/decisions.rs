@@ -277,7 +277,7 @@ For eight operations a call looks up in a table what the level tests come to. Th
 constant of 512 numbers, `ENTRIES` in `crates/table/src/lib.rt`, and that every entry is right is \
 proved as one fact about it, `filled` in `crates/table/specs/Table.antt`. This page shows it. Its \
 numbers are printed from `tupehiwo_plain_entry` in `crates/plain/src/lib.rt`, which works them out \
-from the plain rules and is proved to give what has to stand there (`entryFor` in \
+from the plain rules and is proved to give what has to stand there (`entry_for` in \
 `crates/plain/specs/Entry.antt`). Tests hold the page to that function (`tests/suite/page.rs`), and \
 function and source to the rules of document 01, written apart in `tests/src/decisions.rs`.
 

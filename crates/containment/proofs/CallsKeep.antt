@@ -13,7 +13,7 @@ use Rattle.levels.specs.Order.{at_or_below, order_passes}
 use Rattle.levels.specs.OrderLaws.{IsOrder, is_order}
 use Rattle.records.specs.Records.{field, is_task, is_object, sound_of, lent_bytes}
 use Rattle.records.specs.RecordLaws.{task_facts}
-use Rattle.records.specs.KeepLaws.{field_zero}
+use Rattle.records.proofs.KeepLaws.{field_zero}
 use Rattle.model.specs.declared.Call.{Call}
 use Rattle.model.specs.declared.Call.TheVariants.{Start, Read, Write, Execute, Create, CreateRoot, Move, Delete, CallTask, Invoke, Pass, Post, Find, Mark, Step, Spread}
 use Rattle.model.specs.Verdicts.{is_done}

@@ -18,7 +18,7 @@ use Rattle.rows.specs.Size.{Size, numbers_of}
 use Rattle.levels.specs.declared.Order.{Order}
 use Rattle.records.specs.Records.{field, kind, record_size, Place, root, within, container_byte, spare_byte, is_object, lies_within, sound_of, lent_bytes}
 use Rattle.records.specs.RecordLaws.{field_same, field_else, record_else, record_same}
-use Rattle.records.specs.KeepLaws.{lies_in_law, field_zero}
+use Rattle.records.proofs.KeepLaws.{lies_in_law, field_zero}
 use Rattle.model.specs.State.{MemoryOf, in_use, object, is_root, container_of, lies_in}
 use Rattle.model.proofs.StateLaws.{object_used, used_below}
 use Rattle.model.specs.Inside.{Leads, inside}

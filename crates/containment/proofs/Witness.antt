@@ -18,7 +18,7 @@ use Rattle.levels.specs.Order.{at_or_below, order_passes, count_fits, reflexive,
 use Rattle.levels.specs.OrderLaws.{is_order}
 use Rattle.records.specs.Records.{record_size, marks, field, set_field, set_record, sound_of, lent_bytes}
 use Rattle.records.specs.RecordLaws.{Fields, long, core_top, field_else, record_else, record_same}
-use Rattle.records.specs.KeepLaws.{field_zero, sound_start, task_made, mark_kept}
+use Rattle.records.proofs.KeepLaws.{field_zero, sound_start, task_made, mark_kept}
 use Rattle.model.specs.declared.Call.TheVariants.{Spread}
 use Rattle.model.specs.Verdicts.{granted}
 use Rattle.model.specs.State.{MemoryOf, flow_row, lengths_fit, in_use, level_of, marked, has_flow}

@@ -13,7 +13,7 @@ use Rattle.rows.specs.Size.{present, row_size, numbers, tables}
 use Rattle.levels.specs.declared.Order.{Order}
 use Rattle.levels.specs.Order.{at_or_below}
 use Rattle.records.specs.Records.{BytesLent, set_record, is_task, is_object, driver, container}
-use Rattle.records.specs.KeepLaws.{lies_in_law}
+use Rattle.records.proofs.KeepLaws.{lies_in_law}
 use Rattle.model.specs.Verdicts.{granted, slipped, row_number, row_driver, row_place, row_held, row_rule, row_filled, row_feeding}
 use Rattle.model.specs.State.{Memory, memory, task, object, level_of, read_level_of, driver_of, lies_in, marked, has_write}
 use Rattle.model.specs.Ready.{Ready}

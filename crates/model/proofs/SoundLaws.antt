@@ -17,7 +17,7 @@ use Rattle.levels.specs.Order.{in_order, order_passes}
 use Rattle.levels.specs.OrderLaws.{is_order, both_in}
 use Rattle.records.specs.Records.{kind, is_task, is_object, sound_of, lent_bytes}
 use Rattle.records.specs.RecordLaws.{field_else, free_fields, in_use_law, long}
-use Rattle.records.specs.KeepLaws.{task_made, PlaceFits, object_made, object_moved, object_cleared, mark_kept, sound_start}
+use Rattle.records.proofs.KeepLaws.{task_made, PlaceFits, object_made, object_moved, object_cleared, mark_kept, sound_start}
 use Rattle.model.specs.declared.Call.{Call}
 use Rattle.model.specs.declared.Call.TheVariants.{Start, Read, Write, Execute, Create, CreateRoot, Move, Delete, CallTask, Invoke, Pass, Post, Find, Mark, Step, Spread}
 use Rattle.model.specs.Verdicts.{is_done}

@@ -12,7 +12,7 @@ use Rattle.rows.specs.Size.{present}
 use Rattle.levels.specs.declared.Order.{Order}
 use Rattle.records.specs.Records.{kind, container, is_object, root, container_byte, sound}
 use Rattle.records.specs.RecordLaws.{object_facts}
-use Rattle.records.specs.KeepLaws.{lies_in_law, root_byte}
+use Rattle.records.proofs.KeepLaws.{lies_in_law, root_byte}
 use Rattle.model.specs.State.{Memory, object}
 use Rattle.model.specs.Inside.{most_steps, walk, inside}
 use Rattle.places.specs.Places.{bytes_walk, bytes_inside}

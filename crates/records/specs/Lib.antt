@@ -3,4 +3,3 @@ pub mod RecordLaws
 pub mod WordLaws
 pub mod SeenLaws
 pub mod GroupLaws
-pub mod KeepLaws

@@ -14,7 +14,7 @@ use Rattle.levels.specs.declared.Order.{Order}
 use Rattle.levels.specs.Order.{most_levels, count_fits, order_passes}
 use Rattle.records.specs.Records.{sound, lent_bytes}
 use Rattle.records.specs.RecordLaws.{core_task}
-use Rattle.records.specs.KeepLaws.{field_zero}
+use Rattle.records.proofs.KeepLaws.{field_zero}
 use Rattle.model.specs.declared.Call.{Call}
 use Rattle.model.specs.declared.Call.TheVariants.{Start}
 use Rattle.model.specs.Verdicts.{granted, is_done, row_order}
