@@ -10,7 +10,7 @@ use Rattle.bits.specs.All.{any_b}
 use Rattle.bits.specs.AllLaws.{and-false, any_ext}
 use Rattle.rows.specs.Size.{row_size, numbers, WordsLent}
 use Rattle.rows.specs.Rows.{cell, join_row, bridged}
-use Rattle.rows.specs.RowLaws.{join_ext, bridged_more, bridged_later, bridged_none}
+use Rattle.rows.proofs.RowLaws.{join_ext, bridged_more, bridged_later, bridged_none}
 use Rattle.records.specs.Records.{field}
 use Rattle.sets.specs.declared.Set.{Set}
 use Rattle.sets.specs.Sets.{has, set_of}

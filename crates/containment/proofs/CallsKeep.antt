@@ -6,7 +6,7 @@ use Rattle.std.proofs.Common.{sym, subst, ◌∙◌, true≢false, ⊎_elim, ari
 use mathlib.Core.List.Memᴰ
 use Rattle.std.proofs.lemmas.List.{length-replicate}
 use Rattle.bits.specs.AllLaws.{and_i}
-use Rattle.rows.specs.RowLaws.{cell_zeros, some_number}
+use Rattle.rows.proofs.RowLaws.{cell_zeros, some_number}
 use Rattle.rows.specs.Size.{Size, row_size_of, numbers_of, lent_words}
 use Rattle.levels.specs.declared.Order.{Order}
 use Rattle.levels.specs.Order.{at_or_below, order_passes}

@@ -5,7 +5,7 @@ use Rattle.std.proofs.Math.Path.{refl}
 use Rattle.std.proofs.Common.{◌∙◌, inl, inr, arith}
 use Rattle.std.proofs.Math.Bool.{true, false}
 use Rattle.bits.specs.AllLaws.{or_l}
-use Rattle.rows.specs.RowLaws.{add_kept}
+use Rattle.rows.proofs.RowLaws.{add_kept}
 use Rattle.rows.specs.Size.{Size, row_size_of, numbers_of}
 use Rattle.records.specs.Records.{field, is_object}
 use Rattle.records.specs.RecordLaws.{field_else, record_else}

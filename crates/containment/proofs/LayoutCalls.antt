@@ -10,7 +10,7 @@ use mathlib.Core.List.Memᴰ
 use mathlib.Core.List.{List, [], ◌∷◌, ◌++◌, map}
 use borrow.Author.Tests.{eq-eqb, leb-true, ltb-true, not-true}
 use Rattle.bits.specs.AllLaws.{either, not_so, and_i, or_l, or_r}
-use Rattle.rows.specs.RowLaws.{some_number}
+use Rattle.rows.proofs.RowLaws.{some_number}
 use Rattle.rows.specs.Size.{Size, numbers_of}
 use Rattle.levels.specs.declared.Order.{Order}
 use Rattle.levels.specs.Order.{at_or_below}

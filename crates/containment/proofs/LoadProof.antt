@@ -8,7 +8,7 @@ use Rattle.rows.specs.Size.{Size}
 use Rattle.levels.specs.declared.Order.{Order}
 use Rattle.levels.specs.Order.{order_passes}
 use Rattle.layout.specs.Layout.{Layout, Fits, written, depth, most_deep, most_bytes}
-use Rattle.layout.specs.Proved.{settles_all}
+use Rattle.layout.proofs.Proved.{settles_all}
 use Rattle.layout.specs.Reading.{Settled, fits, broken, deep, settled}
 use Rattle.model.specs.declared.Call.{Call}
 use Rattle.model.specs.declared.Call.TheVariants.{Start}

@@ -11,7 +11,7 @@ use Rattle.std.proofs.Math.Dec.{eqb}
 use borrow.Author.Tests.{eqb-true, eqb-false, eq-eqb, ne_eqb, not-true}
 use Rattle.bits.specs.AllLaws.{or_cases, or_l, or_r, and_i, not_so}
 use Rattle.rows.specs.Rows.{add_cell}
-use Rattle.rows.specs.RowLaws.{length_add}
+use Rattle.rows.proofs.RowLaws.{length_add}
 use Rattle.rows.specs.Size.{Size, row_size_of, numbers_of}
 use Rattle.levels.specs.declared.Order.{Order}
 use Rattle.levels.specs.Order.{at_or_below}

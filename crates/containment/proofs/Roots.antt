@@ -13,7 +13,7 @@ use Rattle.std.proofs.lemmas.List.{length-replicate}
 use borrow.Author.Tests.{eqb-true, eqb-false, eq-eqb, ne_eqb}
 use Rattle.bits.specs.All.{one}
 use Rattle.bits.specs.AllLaws.{either, and_i, not_so}
-use Rattle.rows.specs.RowLaws.{some_number}
+use Rattle.rows.proofs.RowLaws.{some_number}
 use Rattle.rows.specs.Size.{Size, numbers_of}
 use Rattle.levels.specs.declared.Order.{Order}
 use Rattle.records.specs.Records.{field, kind, record_size, Place, root, within, container_byte, spare_byte, is_object, lies_within, sound_of, lent_bytes}

@@ -11,7 +11,7 @@ use Rattle.std.proofs.lemmas.List.{length-replicate, get_or-replicate}
 use borrow.Author.Tests.{eqb-true, eq-eqb, ne_eqb}
 use Rattle.bits.specs.AllLaws.{either, not_so, and_l, and_r}
 use Rattle.rows.specs.Size.{Size, numbers_of}
-use Rattle.rows.specs.RowLaws.{some_number}
+use Rattle.rows.proofs.RowLaws.{some_number}
 use Rattle.levels.specs.declared.Order.{Order}
 use Rattle.layout.specs.Reading.{settled}
 use Rattle.model.specs.declared.Call.{Call}

@@ -11,7 +11,7 @@ use Rattle.bits.specs.Bit.{bit}
 use Rattle.bits.specs.All.{all_b}
 use Rattle.bits.specs.AllLaws.{either}
 use Rattle.rows.specs.Rows.{cell, add_cell}
-use Rattle.rows.specs.RowLaws.{length_add, some_number}
+use Rattle.rows.proofs.RowLaws.{length_add, some_number}
 use Rattle.rows.specs.Size.{Size, small, large, row_size_of, numbers_of}
 use Rattle.levels.specs.declared.Order.{Order}
 use Rattle.levels.specs.Order.{at_or_below, order_passes, count_fits, reflexive, transitive, antisymmetric, below_top, clear_outside}

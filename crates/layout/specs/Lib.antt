@@ -1,13 +1,5 @@
 pub mod Layout
 pub mod Reading
 pub mod Answers
-pub mod NumberLaws
-pub mod PlaceLaws
 pub mod Quick
-pub mod QuickLaws
-pub mod ReadingLaws
-pub mod NestLaws
-pub mod AnswerLaws
-pub mod SettledLaws
 pub mod Claims
-pub mod Proved

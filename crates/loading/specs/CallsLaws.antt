@@ -7,8 +7,8 @@ use Rattle.std.proofs.lemmas.Bool.{eqb-false}
 use Rattle.layout.specs.Layout.{Object, Task, Objects, none, object, root, task, Layout, depth_of, form_depth, depth, most_deep, ObjectFits, TaskFits, ObjectsFit, FormFits, Fits, line_feed, opening, closing, object_word, task_word, field_text, head_text, inner_text, object_text, task_text, form_text, written}
 use Rattle.layout.specs.Reading.{Reading, found, lost, head, task_at}
 use Rattle.layout.specs.Answers.{stands_at}
-use Rattle.layout.specs.NumberLaws.{head_written, head_read, head_longer, task_written, task_read, task_longer}
-use Rattle.layout.specs.ReadingLaws.{inner_starts}
+use Rattle.layout.proofs.NumberLaws.{head_written, head_read, head_longer, task_written, task_read, task_longer}
+use Rattle.layout.proofs.ReadingLaws.{inner_starts}
 use Rattle.model.specs.declared.Call.{Call}
 use Rattle.model.specs.declared.Call.TheVariants.{CreateRoot}
 use Rattle.model.specs.Load.{inner_calls, form_calls, layout_calls}

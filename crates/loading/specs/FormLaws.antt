@@ -6,7 +6,7 @@ use Rattle.levels.specs.declared.Order.{Order}
 use Rattle.layout.specs.Layout.{Object, Task, most_deep, line_feed, closing}
 use Rattle.layout.specs.Reading.{Reading, found, lost, head, task_at}
 use Rattle.layout.specs.Answers.{head_answer, task_answer}
-use Rattle.layout.specs.PlaceLaws.{Goes, cons_at, head_got, task_got}
+use Rattle.layout.proofs.PlaceLaws.{Goes, cons_at, head_got, task_got}
 use Rattle.layout.specs.declared.fields.Heading.TheVariants.{Holds, Headless}
 use Rattle.layout.specs.declared.fields.Running.TheVariants.{Runs, Idle}
 use Rattle.model.specs.declared.Call.{Call}

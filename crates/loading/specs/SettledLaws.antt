@@ -8,7 +8,7 @@ use Rattle.levels.specs.declared.Order.{Order}
 use Rattle.layout.specs.Layout.{Layout, most_bytes}
 use Rattle.layout.specs.Reading.{Settled, fits, broken, deep, settled}
 use Rattle.layout.specs.Answers.{text_answer}
-use Rattle.layout.specs.Proved.{settles_all, place_within}
+use Rattle.layout.proofs.Proved.{settles_all, place_within}
 use Rattle.layout.specs.declared.Text.TheVariants.{Fits, Broken, Deep}
 use Rattle.model.specs.declared.Call.{Call}
 use Rattle.model.specs.Verdicts.{row_form, row_deep}

@@ -10,7 +10,7 @@ use Rattle.std.proofs.lemmas.Bool.{eqb-false}
 use Rattle.bits.specs.All.{one}
 use Rattle.bits.specs.AllLaws.{either, and_i, or_false, or_true}
 use Rattle.rows.specs.Rows.{cell, add_cell}
-use Rattle.rows.specs.RowLaws.{same_place, place_below, cell_add, cell_clear, cell_bridged, length_add, length_clear, length_bridged}
+use Rattle.rows.proofs.RowLaws.{same_place, place_below, cell_add, cell_clear, cell_bridged, length_add, length_clear, length_bridged}
 use Rattle.rows.specs.Size.{Size, row_size_of, numbers_of, tables, lent_words}
 use Rattle.records.specs.Records.{field, set_field, set_record, marks, is_task, is_object, container_byte, spare_byte, lent_bytes}
 use Rattle.records.specs.RecordLaws.{field_same, field_else, length_field, Fields, length_record, record_else, record_same}

@@ -10,7 +10,7 @@ use Prim.Native.Nat.{ℕ, zero, suc, ◌<◌}
 use native.Mathlib.Omega.{arith}
 use borrow.Author.Tests.{eqb-true, eq-eqb, not-true}
 use Rattle.bits.specs.AllLaws.{and_i, and_l, and_r, or_cases, or_l, or_r}
-use Rattle.rows.specs.RowLaws.{some_number}
+use Rattle.rows.proofs.RowLaws.{some_number}
 use Rattle.rows.specs.Size.{Size, numbers_of}
 use Rattle.levels.specs.declared.Order.{Order}
 use Rattle.records.specs.Records.{is_object, lies_within, sound_of}

@@ -11,7 +11,7 @@ use Rattle.std.proofs.lemmas.List.{length-replicate}
 use borrow.Author.Tests.{eqb-true, eq-eqb, ne_eqb}
 use Rattle.bits.specs.AllLaws.{either, not_so, and_l, and_r}
 use Rattle.rows.specs.Size.{Size, numbers_of, lent_words}
-use Rattle.rows.specs.RowLaws.{some_number}
+use Rattle.rows.proofs.RowLaws.{some_number}
 use Rattle.levels.specs.declared.Order.{Order}
 use Rattle.records.specs.Records.{lent_bytes, sound_of}
 use Rattle.model.specs.Verdicts.{granted, slipped, is_done, row_state, row_order}

@@ -8,7 +8,7 @@ use Rattle.bits.specs.All.{all_b, any_b, up_to}
 use Rattle.bits.specs.AllLaws.{and_l, and_r}
 use Rattle.bits.specs.Bit.{bit, word_of}
 use Rattle.rows.specs.Rows.{cell, add_cell, cut_cell, clear_row, clear_column, clear_thing, join_row, bridged}
-use Rattle.rows.specs.RowLaws.{cell_add, cell_zeros, length_add}
+use Rattle.rows.proofs.RowLaws.{cell_add, cell_zeros, length_add}
 use Rattle.rows.specs.Size.{row_size, numbers}
 use Rattle.levels.specs.Order.{at_or_below, order_passes, count_fits, reflexive, transitive, antisymmetric, below_top, clear_outside}
 use Rattle.records.specs.Records.{field, set_field, set_record, is_task, is_object, lies_within, free_record, task_record, object_record_of, sound_record_of, core_record, sound_of}

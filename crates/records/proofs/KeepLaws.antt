@@ -12,7 +12,7 @@ use Rattle.std.proofs.lemmas.List.{length-replicate, get_or-replicate}
 use Rattle.std.proofs.Math.ListN.{get_or-eq_default}
 use Rattle.bits.specs.All.{all_b}
 use Rattle.bits.specs.AllLaws.{and_i, and_l, either}
-use Rattle.rows.specs.RowLaws.{some_number}
+use Rattle.rows.proofs.RowLaws.{some_number}
 use Rattle.rows.specs.Size.{Size, small, large, numbers_of}
 use Rattle.levels.specs.declared.Order.{Order}
 use Rattle.records.specs.Records.{record_size, field, set_field, set_record, kind, level, driver, container, marks, first_spare, is_task, is_object, Place, root, within, container_byte, spare_byte, is_root, lies_within, free_record, sound_record_of, core_record, sound_of, lent_bytes}

@@ -16,7 +16,7 @@ use Rattle.bits.specs.All.{all_b, any_b, up_to}
 use Rattle.bits.specs.AllLaws.{none_at}
 use Rattle.rows.specs.Size.{row_size, numbers}
 use Rattle.rows.specs.Rows.{cell, join_row}
-use Rattle.rows.specs.RowLaws.{same_place}
+use Rattle.rows.proofs.RowLaws.{same_place}
 use Rattle.sets.specs.declared.Set.{Set}
 use Rattle.sets.specs.Sets.{Within, words, of_words, has, set_of, in_word, joined}
 use Rattle.sets.specs.WalkLaws.{in_some, some_of, some_ext, some_or, in_row}

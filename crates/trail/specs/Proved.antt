@@ -9,7 +9,7 @@ use borrow.Author.Tests.{eq-eqb, eqb-true, lt-leb}
 use Rattle.bits.specs.WordsLaws.{in_zeros, in_words_law}
 use Rattle.bits.specs.AllLaws.{either, not_so, and_i, and-false}
 use Rattle.rows.specs.Size.{present, row_size, numbers, lent_words}
-use Rattle.rows.specs.RowLaws.{cell_zeros}
+use Rattle.rows.proofs.RowLaws.{cell_zeros}
 use Rattle.levels.specs.declared.Order.{Order}
 use Rattle.levels.specs.Order.{most_levels, count_fits, order_passes}
 use Rattle.records.specs.Records.{sound, lent_bytes}

@@ -3,7 +3,7 @@ use borrow.Author.Rules.{rules}
 use Rattle.model.specs.State.{memory}
 use Rattle.model.specs.Tallies.{tallied}
 use Rattle.tallies.specs.Counts.{records_in}
-use Rattle.tallies.specs.EntryLaws.{loaded_is}
+use Rattle.tallies.proofs.EntryLaws.{loaded_is}
 use Rattle.calls.proofs.Entering.{counted-length}
 use Rattle.calls.proofs.load_counts.Statement.{statement}
 use Rattle.calls.proofs.load_counts.Tie as tie

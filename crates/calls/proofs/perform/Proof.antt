@@ -3,7 +3,7 @@ use borrow.Author.Rules.{rules}
 use Rattle.model.specs.State.{memory}
 use Rattle.model.specs.Tallies.{tallied}
 use Rattle.tallies.specs.Counts.{records_in}
-use Rattle.tallies.specs.EntryLaws.{performed_is}
+use Rattle.tallies.proofs.EntryLaws.{performed_is}
 use Rattle.calls.proofs.Entering.{counted-length}
 use Rattle.calls.proofs.perform.Statement.{statement}
 use Rattle.calls.proofs.perform.Tie as tie

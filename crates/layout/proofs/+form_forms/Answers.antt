@@ -1,8 +1,8 @@
 use Rattle.std.proofs.Common.{Bool, ◌||◌, ◌+◌, length, drop, length-drop, sym, ap, ◌∙◌, arith}
 use Rattle.layout.specs.Layout.{line_feed, closing}
 use Rattle.layout.specs.Reading.{objects_at}
-use Rattle.layout.specs.PlaceLaws.{stands, head_got, head_left}
-use Rattle.layout.specs.AnswerLaws.{rest, rest_all, rest_more, rest_none, rest_ends, objects_got, objects_lost, object_got, object_lost, object_past, object_no_head, object_no_inner, object_unclosed, object_closed}
+use Rattle.layout.proofs.PlaceLaws.{stands, head_got, head_left}
+use Rattle.layout.proofs.AnswerLaws.{rest, rest_all, rest_more, rest_none, rest_ends, objects_got, objects_lost, object_got, object_lost, object_past, object_no_head, object_no_inner, object_unclosed, object_closed}
 use Rattle.layout.specs.declared.Answer.TheVariants.{Read}
 use Rattle.layout.proofs.+form_forms.Goals as goal
 

@@ -1,7 +1,7 @@
 use Rattle.std.proofs.Common.{◌≡◌, ◌-◌, ◌≤◌, length, drop}
 use Rattle.layout.specs.Reading.{objects_at}
 use Rattle.layout.specs.Answers.{objects_answer}
-use Rattle.layout.specs.AnswerLaws.{rest}
+use Rattle.layout.proofs.AnswerLaws.{rest}
 use Rattle.layout.proofs.+form_forms.Given as goal
 
 abbrev pub decreases-form : goal.decreases-form

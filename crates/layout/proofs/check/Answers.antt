@@ -1,9 +1,9 @@
 use Rattle.std.proofs.Common.{Bool, cond, ◌||◌, ◌+◌, drop, length-drop, sym, ap, ◌∙◌, arith}
 use Rattle.layout.specs.Layout.{line_feed}
 use Rattle.layout.specs.Reading.{read_layout, ninth_from}
-use Rattle.layout.specs.PlaceLaws.{stands}
-use Rattle.layout.specs.AnswerLaws.{form_got, form_left}
-use Rattle.layout.specs.SettledLaws.{lines, settled_long, settled_lines, lines_more, lines_no_form, lines_no_line, lines_end}
+use Rattle.layout.proofs.PlaceLaws.{stands}
+use Rattle.layout.proofs.AnswerLaws.{form_got, form_left}
+use Rattle.layout.proofs.SettledLaws.{lines, settled_long, settled_lines, lines_more, lines_no_form, lines_no_line, lines_end}
 use Rattle.layout.specs.declared.Text.TheVariants.{Fits, Deep}
 use Rattle.layout.proofs.check.Goals as goal
 

@@ -1,6 +1,6 @@
 use Rattle.std.proofs.Common.{◌≡◌, ◌-◌, ◌≤◌, false, length, drop}
 use Rattle.layout.specs.Reading.{read_layout}
-use Rattle.layout.specs.SettledLaws.{lines}
+use Rattle.layout.proofs.SettledLaws.{lines}
 use Rattle.layout.proofs.check.Given as goal
 
 abbrev pub invariant-loop-at : goal.invariant-loop-at

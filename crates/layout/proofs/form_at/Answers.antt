@@ -1,6 +1,6 @@
 use Rattle.std.proofs.Common.{sym, ◌∙◌}
-use Rattle.layout.specs.PlaceLaws.{task_left}
-use Rattle.layout.specs.AnswerLaws.{form_object, form_task, form_no_task}
+use Rattle.layout.proofs.PlaceLaws.{task_left}
+use Rattle.layout.proofs.AnswerLaws.{form_object, form_task, form_no_task}
 use Rattle.layout.proofs.form_at.Goals as goal
 
 pub returns-then-not-is_at : goal.returns-then-not-is_at

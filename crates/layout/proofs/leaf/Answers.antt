@@ -1,9 +1,9 @@
 use Rattle.std.proofs.Common.{drop, sym, ◌∙◌, arith}
 use Rattle.layout.specs.Layout.{none, depth_of, closing}
 use Rattle.layout.specs.Answers.{stands_at}
-use Rattle.layout.specs.PlaceLaws.{stands, head_got}
-use Rattle.layout.specs.AnswerLaws.{object_closed}
-use Rattle.layout.specs.ReadingLaws.{objects_stop}
+use Rattle.layout.proofs.PlaceLaws.{stands, head_got}
+use Rattle.layout.proofs.AnswerLaws.{object_closed}
+use Rattle.layout.proofs.ReadingLaws.{objects_stop}
 use Rattle.layout.specs.Quick.{QuickObject}
 use Rattle.layout.proofs.leaf.Goals as goal
 

@@ -1,7 +1,7 @@
 use Rattle.std.proofs.Common.{◌+◌, length, length-drop, sym, ap, ◌∙◌, arith}
 use Rattle.layout.specs.Layout.{line_feed, closing}
-use Rattle.layout.specs.PlaceLaws.{head_got, head_left, stands}
-use Rattle.layout.specs.NestLaws.{close_answer, nest_no_head, nest_begins, nest_shuts, nest_opens, nest_no_inner, nest_lost, nest_ends}
+use Rattle.layout.proofs.PlaceLaws.{head_got, head_left, stands}
+use Rattle.layout.proofs.NestLaws.{close_answer, nest_no_head, nest_begins, nest_shuts, nest_opens, nest_no_inner, nest_lost, nest_ends}
 use Rattle.layout.proofs.nest.Goals as goal
 
 pub returns-in_default : goal.returns-in_default

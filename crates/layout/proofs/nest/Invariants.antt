@@ -1,7 +1,7 @@
 use Rattle.std.proofs.Common.{◌≡◌, ◌-◌, ◌≤◌, length, drop}
 use Rattle.layout.specs.Reading.{object_at}
 use Rattle.layout.specs.Answers.{nest_answer}
-use Rattle.layout.specs.NestLaws.{closes, close_answer}
+use Rattle.layout.proofs.NestLaws.{closes, close_answer}
 use Rattle.layout.proofs.nest.Given as goal
 
 abbrev pub invariant-loop-held : goal.invariant-loop-held

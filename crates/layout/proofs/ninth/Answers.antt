@@ -1,5 +1,5 @@
 use Rattle.std.proofs.Common.{arith}
-use Rattle.layout.specs.SettledLaws.{ninth_here, ninth_on, ninth_past, opened_within}
+use Rattle.layout.proofs.SettledLaws.{ninth_here, ninth_on, ninth_past, opened_within}
 use Rattle.layout.proofs.ninth.Goals as goal
 
 pub returns-then-b-held : goal.returns-then-b-held

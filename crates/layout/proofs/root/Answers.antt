@@ -1,4 +1,4 @@
-use Rattle.layout.specs.QuickLaws.{object_told}
+use Rattle.layout.proofs.QuickLaws.{object_told}
 use Rattle.layout.proofs.root.Goals as goal
 
 pub returns : goal.returns

@@ -1,5 +1,5 @@
 use Rattle.std.proofs.Common.{sym, ◌∙◌, arith}
-use Rattle.layout.specs.PlaceLaws.{head_got}
+use Rattle.layout.proofs.PlaceLaws.{head_got}
 use Rattle.loading.specs.Forms.{Further, turned}
 use Rattle.loading.specs.TurnLaws.{turn_stops, turn_goes, turn_ready, turn_none}
 use Rattle.loading.specs.FormLaws.{no_level, no_object, object_calls_law, further}

@@ -1,7 +1,7 @@
 use Rattle.std.proofs.Common.{◌≡◌, List, [], ℕ, refl, sym, ◌∙◌}
 use Rattle.levels.specs.declared.Order.{Order}
 use Rattle.layout.specs.Layout.{Task}
-use Rattle.layout.specs.PlaceLaws.{task_got}
+use Rattle.layout.proofs.PlaceLaws.{task_got}
 use Rattle.model.specs.declared.Call.TheVariants.{Execute}
 use Rattle.model.specs.State.{memory}
 use Rattle.model.specs.Ready.{Ready}

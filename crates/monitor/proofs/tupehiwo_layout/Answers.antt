@@ -2,7 +2,7 @@ use Rattle.std.proofs.Common.{◌≡◌, List, ℕ, length, arith, sym, ◌∙�
 use Rattle.layout.specs.Reading.{settled}
 use Rattle.layout.specs.Answers.{text_answer}
 use Rattle.layout.specs.declared.Text.TheVariants.{Fits, Broken, Deep}
-use Rattle.layout.specs.Proved.{settles_all}
+use Rattle.layout.proofs.Proved.{settles_all}
 use Rattle.model.specs.declared.Checked.{Checked}
 use Rattle.model.specs.Verdicts.{granted, row_form, row_deep}
 use Rattle.model.specs.Load.{checked, layout_checked}

@@ -2,7 +2,7 @@ use Rattle.std.proofs.Common.{refl, ap, ◌∙◌}
 use Rattle.model.specs.State.{memory}
 use Rattle.model.specs.Events.{left}
 use Rattle.model.specs.Tallies.{tallied}
-use Rattle.tallies.specs.EntryLaws.{loaded_is}
+use Rattle.tallies.proofs.EntryLaws.{loaded_is}
 use Rattle.monitor.proofs.tupehiwo_load.Goals as goal
 
 pub returns : goal.returns

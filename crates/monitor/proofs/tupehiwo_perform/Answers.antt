@@ -3,7 +3,7 @@ use Rattle.model.specs.State.{memory}
 use Rattle.model.specs.Events.{left}
 use Rattle.model.specs.Tallies.{tallied}
 use Rattle.calls.specs.Request.{call_of}
-use Rattle.tallies.specs.EntryLaws.{performed_is}
+use Rattle.tallies.proofs.EntryLaws.{performed_is}
 use Rattle.monitor.proofs.tupehiwo_perform.Goals as goal
 
 pub returns : goal.returns

@@ -1,4 +1,4 @@
-use Rattle.layout.specs.PlaceLaws.{digit_past, digit_low, digit_high, digit_here}
+use Rattle.layout.proofs.PlaceLaws.{digit_past, digit_low, digit_high, digit_here}
 use Rattle.layout.proofs.fields.digit_at.Goals as goal
 
 pub returns-then-at-text : goal.returns-then-at-text

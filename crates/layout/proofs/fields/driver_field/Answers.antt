@@ -1,7 +1,7 @@
 use Rattle.std.proofs.Common.{refl, sym}
 use Rattle.layout.specs.Layout.{driver_word}
 use Rattle.layout.specs.Quick.{quad_at}
-use Rattle.layout.specs.QuickLaws.{is_word}
+use Rattle.layout.proofs.QuickLaws.{is_word}
 use Rattle.layout.proofs.fields.driver_field.Goals as goal
 
 pub returns : goal.returns

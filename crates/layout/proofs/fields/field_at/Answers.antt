@@ -1,5 +1,5 @@
 use Rattle.std.proofs.Common.{◌∙◌, eq-eqb, ne_eqb, arith}
-use Rattle.layout.specs.PlaceLaws.{leaves_at, field_missing, word_step, word_short, word_end}
+use Rattle.layout.proofs.PlaceLaws.{leaves_at, field_missing, word_step, word_short, word_end}
 use Rattle.layout.proofs.fields.field_at.Goals as goal
 
 pub returns-then-p-text : goal.returns-then-p-text

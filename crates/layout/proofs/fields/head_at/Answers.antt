@@ -1,4 +1,4 @@
-use Rattle.layout.specs.QuickLaws.{head_told}
+use Rattle.layout.proofs.QuickLaws.{head_told}
 use Rattle.layout.proofs.fields.head_at.Goals as goal
 
 pub returns : goal.returns

@@ -1,6 +1,6 @@
 use Rattle.std.proofs.Common.{sym, ◌∙◌}
 use Rattle.layout.specs.Layout.{object_word, driver_word, level_word}
-use Rattle.layout.specs.PlaceLaws.{field_got, field_left, head_no_number, head_no_driver, head_no_level, head_whole, head_missing, head_answer_law}
+use Rattle.layout.proofs.PlaceLaws.{field_got, field_left, head_no_number, head_no_driver, head_no_level, head_whole, head_missing, head_answer_law}
 use Rattle.layout.proofs.fields.head_by_bytes.Goals as goal
 
 pub returns-in_default : goal.returns-in_default

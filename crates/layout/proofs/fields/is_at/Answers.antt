@@ -1,4 +1,4 @@
-use Rattle.layout.specs.PlaceLaws.{stands_past, stands_is}
+use Rattle.layout.proofs.PlaceLaws.{stands_past, stands_is}
 use Rattle.layout.proofs.fields.is_at.Goals as goal
 
 pub returns-then-at-text : goal.returns-then-at-text

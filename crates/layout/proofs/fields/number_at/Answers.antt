@@ -1,5 +1,5 @@
 use Rattle.std.proofs.Common.{◌+◌, ◌*◌, drop, arith}
-use Rattle.layout.specs.PlaceLaws.{leaves_at, field_answer_law, field_missing, number_none, none_here, here, here', zero_digit, one_digit, two_digits, three_digits}
+use Rattle.layout.proofs.PlaceLaws.{leaves_at, field_answer_law, field_missing, number_none, none_here, here, here', zero_digit, one_digit, two_digits, three_digits}
 use Rattle.layout.proofs.fields.number_at.Goals as goal
 
 pub returns-then-a-gt9 : goal.returns-then-a-gt9

@@ -1,7 +1,7 @@
 use Rattle.std.proofs.Common.{length, sym, ap, ◌∙◌, arith}
 use Rattle.layout.specs.Answers.{field_answer}
 use Rattle.layout.specs.Quick.{QuickField}
-use Rattle.layout.specs.QuickLaws.{word_stands, quick_told}
+use Rattle.layout.proofs.QuickLaws.{word_stands, quick_told}
 use Rattle.layout.proofs.fields.quick_field.Goals as goal
 
 pub returns-then-text-at-lt8 : goal.returns-then-text-at-lt8

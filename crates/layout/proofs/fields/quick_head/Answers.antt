@@ -1,7 +1,7 @@
 use Rattle.layout.specs.Layout.{object_word, driver_word, level_word}
-use Rattle.layout.specs.PlaceLaws.{head_whole, head_answer_law}
+use Rattle.layout.proofs.PlaceLaws.{head_whole, head_answer_law}
 use Rattle.layout.specs.Quick.{QuickHead}
-use Rattle.layout.specs.QuickLaws.{quick_got}
+use Rattle.layout.proofs.QuickLaws.{quick_got}
 use Rattle.layout.proofs.fields.quick_head.Goals as goal
 
 pub returns-in_default : goal.returns-in_default

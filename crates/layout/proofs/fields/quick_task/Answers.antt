@@ -1,8 +1,8 @@
 use Rattle.std.proofs.Common.{sym, ◌∙◌, arith, ◌+◌}
 use Rattle.layout.specs.Layout.{task_word, image_word, level_word, reads_word, closing}
-use Rattle.layout.specs.PlaceLaws.{stands, stands_expected, task_closes, task_answer_law}
+use Rattle.layout.proofs.PlaceLaws.{stands, stands_expected, task_closes, task_answer_law}
 use Rattle.layout.specs.Quick.{QuickTask}
-use Rattle.layout.specs.QuickLaws.{quick_got}
+use Rattle.layout.proofs.QuickLaws.{quick_got}
 use Rattle.layout.proofs.fields.quick_task.Goals as goal
 
 pub returns-in_default : goal.returns-in_default

@@ -1,4 +1,4 @@
-use Rattle.layout.specs.QuickLaws.{task_told}
+use Rattle.layout.proofs.QuickLaws.{task_told}
 use Rattle.layout.proofs.fields.task_at.Goals as goal
 
 pub returns : goal.returns

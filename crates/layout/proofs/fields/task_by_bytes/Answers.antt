@@ -1,6 +1,6 @@
 use Rattle.std.proofs.Common.{◌+◌, sym, ◌∙◌, arith}
 use Rattle.layout.specs.Layout.{task_word, image_word, level_word, reads_word, closing}
-use Rattle.layout.specs.PlaceLaws.{field_got, field_left, leaves_at, stands, stands_not, stands_expected, task_no_number, task_no_image, task_no_level, task_no_reads, task_closes, task_missing, task_answer_law}
+use Rattle.layout.proofs.PlaceLaws.{field_got, field_left, leaves_at, stands, stands_not, stands_expected, task_no_number, task_no_image, task_no_level, task_no_reads, task_closes, task_missing, task_answer_law}
 use Rattle.layout.proofs.fields.task_by_bytes.Goals as goal
 
 pub returns-in_default : goal.returns-in_default

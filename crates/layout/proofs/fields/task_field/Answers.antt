@@ -1,7 +1,7 @@
 use Rattle.std.proofs.Common.{refl, sym}
 use Rattle.layout.specs.Layout.{task_word}
 use Rattle.layout.specs.Quick.{quad_at}
-use Rattle.layout.specs.QuickLaws.{is_word}
+use Rattle.layout.proofs.QuickLaws.{is_word}
 use Rattle.layout.proofs.fields.task_field.Goals as goal
 
 pub returns : goal.returns

@@ -9,7 +9,7 @@ use borrow.Author.Rules.{rules}
 use borrow.Author.Tests.{not-true, not-false}
 use Rattle.bits.specs.All.{any_b}
 use Rattle.rows.specs.Size.{row_size, numbers}
-use Rattle.rows.specs.RowLaws.{cell_zeros}
+use Rattle.rows.proofs.RowLaws.{cell_zeros}
 use Rattle.sets.specs.Sets.{last, has, set_of}
 use Rattle.model.specs.State.{memory, in_use, marked}
 use Rattle.model.proofs.SpreadLaws.{unmarked}

@@ -5,8 +5,8 @@ use Rattle.std.proofs.Common.{sym, ap, ◌∙◌, arith, drop-drop, lt-ltb, le-l
 use Rattle.layout.specs.Layout.{Object, Objects, none, object, depth_of, Form, root, task, form_depth, most_deep, line_feed, closing, inner_text, object_text, form_text}
 use Rattle.layout.specs.Reading.{Reading, found, lost, after, head, task_at, object_at, objects_at, form_at}
 use Rattle.layout.specs.Answers.{stands_at, left_answer, task_answer, nest_answer, object_answer, objects_answer, form_answer}
-use Rattle.layout.specs.PlaceLaws.{ends, Tail, tail_then, tail_cons, tail_head, tail_task, rest_in, Goes, goes, Leaves, stands, stands_expected, stands_not, task_got}
-use Rattle.layout.specs.ReadingLaws.{object_sound, objects_sound, object_less, objects_less, object_is, objects_more, objects_stop, form_read, form_less}
+use Rattle.layout.proofs.PlaceLaws.{ends, Tail, tail_then, tail_cons, tail_head, tail_task, rest_in, Goes, goes, Leaves, stands, stands_expected, stands_not, task_got}
+use Rattle.layout.proofs.ReadingLaws.{object_sound, objects_sound, object_less, objects_less, object_is, objects_more, objects_stop, form_read, form_less}
 use Rattle.layout.specs.declared.Answer.{Answer}
 use Rattle.layout.specs.declared.Answer.TheVariants.{Read, Unread}
 use Rattle.layout.specs.declared.fields.Running.TheVariants.{Runs}

@@ -8,7 +8,7 @@ use Rattle.bits.specs.AllLaws.{and_l, and_r}
 use Rattle.layout.specs.Reading.{Reading, field, number}
 use Rattle.layout.specs.Layout.{Object, Task, Objects}
 use Rattle.layout.specs.Answers.{field_answer, head_answer, task_answer, object_answer}
-use Rattle.layout.specs.PlaceLaws.{Goes, field_got, word_step, word_end}
+use Rattle.layout.proofs.PlaceLaws.{Goes, field_got, word_step, word_end}
 use Rattle.layout.specs.Quick.{quad_at, IsWord, QuickField, QuickHead, QuickTask, QuickObject}
 use Rattle.layout.specs.declared.fields.Field.{Field}
 use Rattle.layout.specs.declared.fields.Field.TheVariants.{Number, Missing}

@@ -9,7 +9,7 @@ use Rattle.std.proofs.Math.Seq.{drop-append_seam}
 use Rattle.layout.specs.Layout.{Object, Task, closing, object_word, driver_word, level_word, task_word, image_word, reads_word, digit, decimal, field_text, head_text, task_text}
 use Rattle.layout.specs.Reading.{Reading, found, lost, after, expect, is_digit, more_digits, number, field, head, task_at}
 use Rattle.layout.specs.Answers.{digit_at, stands_at, field_answer, left_field, head_answer, left_head, task_answer, left_task}
-use Rattle.layout.specs.NumberLaws.{starts, digit_is, digit_bounds, more_stop, more_digit, first_digit, field_read, head_read, task_read, field_longer, head_longer, task_longer, expect_is}
+use Rattle.layout.proofs.NumberLaws.{starts, digit_is, digit_bounds, more_stop, more_digit, first_digit, field_read, head_read, task_read, field_longer, head_longer, task_longer, expect_is}
 use Rattle.layout.specs.declared.fields.Field.{Field}
 use Rattle.layout.specs.declared.fields.Field.TheVariants.{Number, Missing}
 use Rattle.layout.specs.declared.fields.Heading.{Heading}

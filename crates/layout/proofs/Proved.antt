@@ -5,8 +5,8 @@ use Rattle.std.proofs.Common.{sym, ◌∙◌, inl, inr, arith, le-leb, le-ltb, l
 use Rattle.std.proofs.lemmas.Bool.{lt-leb}
 use Rattle.layout.specs.Layout.{Layout, Fits, written, depth, opening, most_deep, most_bytes}
 use Rattle.layout.specs.Reading.{Reading, found, lost, read_layout, Settled, fits, broken, deep, opened, ninth_from, settled_by, settled}
-use Rattle.layout.specs.NumberLaws.{found_inj, lost_found}
-use Rattle.layout.specs.ReadingLaws.{layout_sound, layout_written}
+use Rattle.layout.proofs.NumberLaws.{found_inj, lost_found}
+use Rattle.layout.proofs.ReadingLaws.{layout_sound, layout_written}
 use Rattle.layout.specs.Claims.{OneReading, ReadsWhole, OneLayout, SettlesAll, SettlesBroken, SettlesDeep, PlaceWithin}
 
 pub reads_whole : ReadsWhole

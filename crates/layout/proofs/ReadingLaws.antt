@@ -5,7 +5,7 @@ use Rattle.std.proofs.Math.Path.{refl}
 use Rattle.std.proofs.Common.{sym, ap, ◌∙◌, arith, eqb-true}
 use Rattle.layout.specs.Layout.{Object, ObjectFits, head_text, Task, task_text, Objects, none, object, ObjectsFit, inner_text, object_text, Form, FormFits, form_text, root, task, Layout, Fits, written, line_feed, closing, field_text, task_word, object_word}
 use Rattle.layout.specs.Reading.{Reading, found, lost, after, expect, is_digit, head, task_at, object_by, objects_by, object_at, objects_at, form_at, layout_by, read_layout}
-use Rattle.layout.specs.NumberLaws.{found_inj, lost_found, after_found, expect_found, expect_is, starts, head_written, head_read, task_written, task_read, head_longer, task_longer}
+use Rattle.layout.proofs.NumberLaws.{found_inj, lost_found, after_found, expect_found, expect_is, starts, head_written, head_read, task_written, task_read, head_longer, task_longer}
 use Rattle.layout.specs.Answers.{stands_at}
 
 -- ---- readings that go on alike

@@ -4,9 +4,9 @@ use Rattle.std.specs.Prelude.{◌≡◌, refl, Bool, true, false, cond, List, []
 use Rattle.std.proofs.Common.{ap, ◌∙◌, arith, add-one}
 use Rattle.layout.specs.Layout.{Object, Objects, object, line_feed, closing}
 use Rattle.layout.specs.Reading.{Reading, found, lost, after, expect, head, object_at, objects_at}
-use Rattle.layout.specs.NumberLaws.{expect_is}
-use Rattle.layout.specs.PlaceLaws.{ends, Leaves, stands, stands_not}
-use Rattle.layout.specs.ReadingLaws.{object_is, objects_more, objects_stop}
+use Rattle.layout.proofs.NumberLaws.{expect_is}
+use Rattle.layout.proofs.PlaceLaws.{ends, Leaves, stands, stands_not}
+use Rattle.layout.proofs.ReadingLaws.{object_is, objects_more, objects_stop}
 use Rattle.layout.specs.Answers.{stands_at, nest_answer}
 use Rattle.layout.specs.declared.Answer.{Answer}
 use Rattle.layout.specs.declared.Answer.TheVariants.{Read, Unread}

@@ -5,9 +5,9 @@ use Rattle.std.proofs.Common.{ap, ◌∙◌, arith, drop_of_length-le, lt-ltb, l
 use Rattle.layout.specs.Layout.{Form, form_depth, Layout, depth, most_deep, most_bytes, line_feed, opening, closing}
 use Rattle.layout.specs.Reading.{Reading, found, lost, after, expect, form_at, layout_by, read_layout, fits, deep, opened, ninth_from, settled_by, settled}
 use Rattle.layout.specs.Answers.{stands_at, text_answer}
-use Rattle.layout.specs.PlaceLaws.{ends, cons_at, Leaves, stands, stands_not}
-use Rattle.layout.specs.ReadingLaws.{layout_more, layout_line}
-use Rattle.layout.specs.AnswerLaws.{or_assoc, or_none, either_past}
+use Rattle.layout.proofs.PlaceLaws.{ends, cons_at, Leaves, stands, stands_not}
+use Rattle.layout.proofs.ReadingLaws.{layout_more, layout_line}
+use Rattle.layout.proofs.AnswerLaws.{or_assoc, or_none, either_past}
 use Rattle.layout.specs.declared.Text.{Text}
 use Rattle.layout.specs.declared.Text.TheVariants.{Fits, Broken, Deep}
 
