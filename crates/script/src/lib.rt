@@ -1,5 +1,6 @@
 // Reading a line of a script.
 #![tactic(auto)]
+
 mod calls;
 mod pieces;
 pub mod print;
