@@ -55,7 +55,7 @@ placed_sees size bs bs' x c f object h = rw (c, f) (⊎_elim inl (λ q. inr (q.0
 
 record_sees : (size : Size) (o : Order) (bs bs' : List ℕ) (x : ℕ)
     → ((f : ℕ) → f < record_size → field bs' x f ≡ field bs x f)
-    → (kind bs x ≡ 2 → kind bs (driver bs x) ≡ 1 → kind bs' (driver bs x) ≡ 1)
+    → (kind bs (driver bs x) ≡ 1 → kind bs' (driver bs x) ≡ 1)
     → (kind bs x ≡ 2 → kind bs (container bs x) ≡ 2 → kind bs' (container bs x) ≡ 2)
     → sound_record_of size o bs x ≡ true
     → sound_record_of size o bs' x ≡ true
@@ -69,12 +69,12 @@ record_sees size o bs bs' x same task object h = go (kind_at size o bs x h)
     go (inl (inr e)) = let t = task_at_law size o bs x h e in task_anew size o bs bs' x (λ g l p q. at g l) e t (simp at t.no_container) (simp at t.marking)
     go (inr e) =
         let t = object_at_law size o bs x h e in
-        object_anew size o bs bs' x (λ g l p q. at g l) e t (task e t.driven) (placed_sees size bs bs' x (same 4 (omega arith)) (same 6 (omega arith)) (object e) t.placing) (simp at t.marking)
+        object_anew size o bs bs' x (λ g l p q. at g l) e t (task t.driven) (placed_sees size bs bs' x (same 4 (omega arith)) (same 6 (omega arith)) (object e) t.placing) (simp at t.marking)
 
--- ---- a change at y alone: a task that is a driver stays one, and so does an object that is a container
+-- ---- a change at y alone: what was a task stays one, and so does an object that is a container
 module _ (size : Size) (o : Order) (bs bs' : List ℕ) (y : ℕ)
     (else : (x f : ℕ) → (x ≡ y → ⊥) → f < record_size → field bs' x f ≡ field bs x f)
-    (task : (x : ℕ) → kind bs x ≡ 2 → driver bs x ≡ y → kind bs y ≡ 1 → kind bs' y ≡ 1)
+    (task : kind bs y ≡ 1 → kind bs' y ≡ 1)
     (object : (x : ℕ) → kind bs x ≡ 2 → container bs x ≡ y → kind bs y ≡ 2 → kind bs' y ≡ 2) where
   kind_stays : (z v : ℕ) → (z ≡ y → kind bs y ≡ v → kind bs' y ≡ v) → kind bs z ≡ v → kind bs' z ≡ v
   kind_stays z v h e =
@@ -85,7 +85,7 @@ module _ (size : Size) (o : Order) (bs bs' : List ℕ) (y : ℕ)
 
   other_kept : (x : ℕ) → (x ≡ y → ⊥) → sound_record_of size o bs x ≡ true → sound_record_of size o bs' x ≡ true
   other_kept x n =
-      record_sees size o bs bs' x (λ f l. else x f n l) (λ k. kind_stays (driver bs x) 1 (task x k)) (λ k. kind_stays (container bs x) 2 (object x k))
+      record_sees size o bs bs' x (λ f l. else x f n l) (kind_stays (driver bs x) 1 (λ q. task)) (λ k. kind_stays (container bs x) 2 (object x k))
 
   each_kept : ((x : ℕ) → x < numbers_of size → (x ≡ y → ⊥) → sound_record_of size o bs x ≡ true) → sound_record_of size o bs' y ≡ true → (x : ℕ) → x < numbers_of size → sound_record_of size o bs' x ≡ true
   each_kept each here x l =
@@ -130,24 +130,21 @@ record Stored (bs bs' : List ℕ) (y f v : ℕ) : Type 0 where
   kind_of : (z : ℕ) → kind bs' z ≡ kind bs z
 
 module _ (size : Size) (o : Order) (bs : List ℕ) (ok : sound_of size o bs ≡ true) where
-  -- ---- the record of a number other than the core's
+  -- ---- the record of a number that is no task
 
   module _ (bs' : List ℕ) (y : ℕ) (len : length bs' ≡ length bs) (else : (x f : ℕ) → (x ≡ y → ⊥) → f < record_size → field bs' x f ≡ field bs x f)
-      (core : 0 ≡ y → ⊥) (task : (x : ℕ) → kind bs x ≡ 2 → driver bs x ≡ y → kind bs y ≡ 1 → kind bs' y ≡ 1) (object : (x : ℕ) → kind bs x ≡ 2 → container bs x ≡ y → kind bs y ≡ 2 → kind bs' y ≡ 2) where
+      (no_task : kind bs y ≡ 1 → ⊥) (object : (x : ℕ) → kind bs x ≡ 2 → container bs x ≡ y → kind bs y ≡ 2 → kind bs' y ≡ 2) where
     record_kept : sound_record_of size o bs' y ≡ true → sound_of size o bs' ≡ true
     record_kept here =
+        let core : 0 ≡ y → ⊥ = λ e. no_task (ap (λ (z : ℕ). kind bs z) (sym e) ∙ core_task size o bs ok) in
         sound_i size o _ (len ∙ long size o bs ok)
         (core_kept o bs _ (else 0 0 core (omega arith)) (else 0 1 core (omega arith)) (core_at size o bs ok))
-        (each_kept size o bs _ y else task object (λ x lx n. record_at_law size o bs ok x lx) here)
-
-  -- a number of another kind is not the core's
-  not_core : (y k : ℕ) → kind bs y ≡ k → (k ≡ 1 → ⊥) → 0 ≡ y → ⊥
-  not_core y k e n q = n (sym e ∙ ap (λ (z : ℕ). kind bs z) (sym q) ∙ core_task size o bs ok)
+        (each_kept size o bs _ y else (λ e. absurd (no_task e)) object (λ x lx n. record_at_law size o bs ok x lx) here)
 
   -- ---- a new task
   pub task_made : (n l r : ℕ) → n < numbers_of size → kind bs n ≡ 0 → l < o.count → r < o.count → sound_of size o (set_record bs n 1 l r 0 0 0 0) ≡ true
   task_made n l r ln e hl hr =
-      record_kept _ n (length_record bs n 1 l r 0 0 0 0) (record_else bs n 1 l r 0 0 0 0) (not_core n 0 e (omega arith)) (λ x k q e2. absurd (omega arith)) (λ x k q e2. absurd (omega arith))
+      record_kept _ n (length_record bs n 1 l r 0 0 0 0) (record_else bs n 1 l r 0 0 0 0) (omega arith) (λ x k q e2. absurd (omega arith))
       (plain_task size o _ n l r (record_same bs n 1 l r 0 0 0 0 size (long size o bs ok) ln) hl hr)
 
   -- ---- a new object
@@ -155,7 +152,7 @@ module _ (size : Size) (o : Order) (bs : List ℕ) (ok : sound_of size o bs ≡ 
       → sound_of size o (set_record bs n 2 l 0 d (container_byte p size) m (spare_byte p size)) ≡ true
   unfolding is_object
   object_made n l d m p ln e hl hd hp hm =
-      record_kept _ n (length_record bs n 2 l 0 d _ m _) (record_else bs n 2 l 0 d _ m _) (not_core n 0 e (omega arith)) (λ x k q e2. absurd (omega arith)) (λ x k q e2. absurd (omega arith))
+      record_kept _ n (length_record bs n 2 l 0 d _ m _) (record_else bs n 2 l 0 d _ m _) (omega arith) (λ x k q e2. absurd (omega arith))
       (object_passes size o _ n w.kind_is record {
         level_in = rw w.level_is hl;
         no_read = w.read_is;
@@ -199,22 +196,13 @@ module _ (size : Size) (o : Order) (bs : List ℕ) (ok : sound_of size o bs ≡ 
       not_root : is_root size bs x ≡ true → container bs x ≡ k → ⊥
       not_root r q = root_byte size refl (ap (λ (y : ℕ). kind bs y) (sym (eqb-true _ _ (and_l _ _ r)) ∙ q) ∙ h)
 
-  -- ---- a record cleared, of a number other than the core's, that is no object's driver and no object's container
-  cleared : (y : ℕ) → (kind bs y ≡ 0 → ⊥) → (0 ≡ y → ⊥) → ((x : ℕ) → kind bs x ≡ 2 → driver bs x ≡ y → kind bs y ≡ 1 → ⊥) → ((x : ℕ) → kind bs x ≡ 2 → container bs x ≡ y → kind bs y ≡ 2 → ⊥)
-      → sound_of size o (set_record bs y 0 0 0 0 0 0 0) ≡ true
-  cleared y used core idle empty =
-      let w = record_same bs y 0 0 0 0 0 0 0 size (long size o bs ok) (in_use_law size o bs ok y used) in
-      record_kept _ y (length_record bs y 0 0 0 0 0 0 0) (record_else bs y 0 0 0 0 0 0 0) core (λ x k q e. absurd (idle x k q e)) (λ x k q e. absurd (empty x k q e))
-      (zeros_pass size o _ y w)
-
-  -- an object that none lies in
+  -- ---- an object cleared that is no object's container
   pub object_cleared : (y : ℕ) → kind bs y ≡ 2 → ((x : ℕ) → kind bs x ≡ 2 → lies_within size bs x y ≡ true → ⊥) → sound_of size o (set_record bs y 0 0 0 0 0 0 0) ≡ true
   object_cleared y e empty =
-      cleared y (omega arith) (not_core y 2 e (omega arith)) (λ x k q h. omega arith) (λ x k q h. empty x k (lies_in_law x y e ∙ eq-eqb _ _ q))
-
-  -- a task that drives none
-  pub task_cleared : (y : ℕ) → kind bs y ≡ 1 → (0 ≡ y → ⊥) → ((x : ℕ) → kind bs x ≡ 2 → driver bs x ≡ y → ⊥) → sound_of size o (set_record bs y 0 0 0 0 0 0 0) ≡ true
-  task_cleared y e core idle = cleared y (omega arith) core (λ x k q h. idle x k q) (λ x k q h. omega arith)
+      let ly = in_use_law size o bs ok y (omega arith) in
+      let w = record_same bs y 0 0 0 0 0 0 0 size (long size o bs ok) ly in
+      record_kept _ y (length_record bs y 0 0 0 0 0 0 0) (record_else bs y 0 0 0 0 0 0 0) (omega arith) (λ x k q e2. absurd (empty x k (lies_in_law x y e ∙ eq-eqb _ _ q)))
+      (zeros_pass size o _ y w)
 
   -- ---- one field behind kind and level
 
@@ -231,7 +219,7 @@ module _ (size : Size) (o : Order) (bs : List ℕ) (ok : sound_of size o bs ≡ 
     field_kept here =
         sound_i size o _ (length_field bs y f v ∙ long size o bs ok)
         (core_kept o bs _ (stored.kind_of 0) (field_else bs y f v 0 1 lf (omega arith) (inr (omega arith))) (core_at size o bs ok))
-        (each_kept size o bs _ y (λ x g n l. field_else bs y f v x g lf l (inl n)) (λ x k q e. stored.kind_of y ∙ e) (λ x k q e. stored.kind_of y ∙ e) (λ x lx n. record_at_law size o bs ok x lx) here)
+        (each_kept size o bs _ y (λ x g n l. field_else bs y f v x g lf l (inl n)) (λ e. stored.kind_of y ∙ e) (λ x k q e. stored.kind_of y ∙ e) (λ x lx n. record_at_law size o bs ok x lx) here)
 
   -- ---- an object put from one container into another
   pub object_moved : (x f c : ℕ) → kind bs x ≡ 2 → lies_within size bs x f ≡ true → kind bs c ≡ 2 → (c ≡ x → ⊥) → sound_of size o (set_field bs x 4 c) ≡ true
@@ -290,6 +278,6 @@ sound_start size o n e l =
     let w = record_same (replicate n 0) 0 1 o.top o.top 0 0 0 0 size (length-replicate n 0 ∙ e) (some_number size) in
     sound_i size o _ (length_record (replicate n 0) 0 1 o.top o.top 0 0 0 0 ∙ length-replicate n 0 ∙ e)
     (and_i (eq-eqb _ _ w.kind_is) (eq-eqb _ _ w.level_is))
-    (each_kept size o (replicate n 0) _ 0 (record_else (replicate n 0) 0 1 o.top o.top 0 0 0 0) (λ x k q e. w.kind_is) (λ x k. absurd (omega (arith, field_zero n x 0)))
+    (each_kept size o (replicate n 0) _ 0 (record_else (replicate n 0) 0 1 o.top o.top 0 0 0 0) (λ k. w.kind_is) (λ x k. absurd (omega (arith, field_zero n x 0)))
     (λ x lx d. free_passes size o _ x (λ f lf. field_zero n x f))
     (plain_task size o _ 0 o.top o.top w l l))
