@@ -1,5 +1,6 @@
 // Marking: mark and step, the spread, and the report of what is marked.
 #![tactic(auto)]
+
 mod marks;
 mod rounds;
 

@@ -1,0 +1,12 @@
+use Rattle.std.proofs.Common.{ap, ◌∙◌, rules}
+use Rattle.sets.specs.Sets.{in_word}
+use Rattle.sets.specs.SetLaws.{fits, has_words}
+use Rattle.model.specs.Effects.{mark_where}
+use Rattle.marking.specs.MarksLaws.{where_then}
+use Rattle.marking.proofs.marks.mark_set.Goals as goal
+
+pub returns : goal.returns
+returns c =
+    let a = c.args in
+    λ ws. c.mark_word-2.ensures.0 ws ∙ ap (mark_where (in_word a.set.high 64)) (c.mark_word.ensures.0 ws)
+    ∙ where_then _ _ _ _ c.requires (has_words a.set (fits (search rules) (search rules)))

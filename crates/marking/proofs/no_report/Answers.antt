@@ -1,0 +1,7 @@
+use Rattle.std.proofs.Common.{refl}
+use Rattle.model.specs.Monitor.{no_report}
+use Rattle.marking.proofs.no_report.Goals as goal
+
+pub returns : goal.returns
+unfolding no_report
+returns c = refl
