@@ -1,6 +1,7 @@
 // Runs a script: a call a line from standard input, an answer a line to standard output, and at the end the marked numbers. That
 // these are a script's answers is proved in `feeding`; here are only the reading, the writing and their errors.
 #![tactic(auto)]
+
 mod feeding;
 mod lines;
 mod marked;

@@ -1,0 +1,9 @@
+use Rattle.std.proofs.Common.{◌∙◌, arith}
+use Rattle.trail.specs.BufferLaws.{no_last, some_last}
+use Rattle.trail.proofs.feeding.last_line.Goals as goal
+
+pub returns-then-line-eq0 : goal.returns-then-line-eq0
+returns-then-line-eq0 c = (no_last _ _ c.if-line-eq0.true, omega arith)
+
+pub returns : goal.returns
+returns c = (c.end_line.ensures.0 ∙ some_last _ _ c.if-line-eq0.false, c.end_line.ensures.1)

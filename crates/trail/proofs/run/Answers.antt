@@ -1,0 +1,5 @@
+use Rattle.trail.specs.BufferLaws.{some_script}
+use Rattle.trail.proofs.run.Goals as goal
+
+pub returns : goal.returns
+returns c = (λ h. some_script c.read_all-last.ensures.0 c.finish-end.ensures.0, c.finish-end.ensures.1)
