@@ -10,7 +10,7 @@ use Rattle.bits.specs.All.{any_b}
 use Rattle.bits.specs.AllLaws.{both_ways, and_i, or_false, or_cases, or_l, or_r, any_i, any_at}
 use Rattle.rows.specs.Size.{present, row_size, numbers}
 use Rattle.rows.specs.Rows.{place, cell, add_cell}
-use Rattle.rows.specs.RowLaws.{cell_add, length_add}
+use Rattle.rows.proofs.RowLaws.{cell_add, length_add}
 use Rattle.levels.specs.declared.Order.{Order}
 use Rattle.records.specs.Records.{driver, is_object, sound}
 use Rattle.records.specs.RecordLaws.{object_facts, in_use_law}

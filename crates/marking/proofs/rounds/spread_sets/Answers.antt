@@ -2,7 +2,7 @@ use Rattle.std.proofs.Common.{◌≡◌, not, ◌&&◌, List, ℕ, ◌+◌, ◌*
 use Rattle.std.proofs.Math.Dec.{eqb}
 use borrow.Author.Tests.{not-true, not-false}
 use Rattle.rows.specs.Size.{row_size, numbers}
-use Rattle.rows.specs.RowLaws.{cell_zeros}
+use Rattle.rows.proofs.RowLaws.{cell_zeros}
 use Rattle.records.specs.Records.{field}
 use Rattle.sets.specs.declared.Set.{Set}
 use Rattle.sets.specs.Sets.{has, set_of}
