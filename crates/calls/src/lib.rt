@@ -1,5 +1,6 @@
 // Every call and load over a lent memory: judged, carried out, told and entered in its list of tallies, whichever engine decides.
 #![tactic(auto)]
+
 ghost use Rattle.std.specs.Prelude.{◌≡◌, true, ◌&&◌, eqb};
 ghost use Rattle.rows.specs.Size.{numbers};
 ghost use Rattle.records.specs.Records.{sound};

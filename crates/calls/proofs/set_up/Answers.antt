@@ -1,12 +1,6 @@
-use mathlib.Core.Path.{◌≡◌, ◌∙◌, ap}
-use mathlib.Core.Bool.{true, and-eq-true_iff}
-use mathlib.Core.List.{List}
-use Prim.Native.Nat.{ℕ, ◌%◌}
-use native.Mathlib.Nat.{mod-eq_of_lt}
-use native.Mathlib.Omega.{arith}
-use lib.ListN.{length, replicate}
-use borrow.Author.Rules.{rules}
-use borrow.Author.Tests.{eqb-true}
+use Rattle.std.proofs.Common.{◌≡◌, true, List, ℕ, ◌%◌, ◌∙◌, ap, length, replicate, arith, eqb-true}
+use Rattle.std.proofs.Math.Bool.{and-eq-true_iff}
+use Rattle.std.proofs.Math.Nat.{mod-eq_of_lt}
 use Rattle.levels.specs.declared.Order.{Order}
 use Rattle.levels.specs.Order.{order_passes}
 use Rattle.levels.specs.OrderLaws.{IsOrder, is_order, both_in}
@@ -14,8 +8,7 @@ use Rattle.rows.specs.Size.{WordsLent}
 use Rattle.records.specs.Records.{BytesLent, set_record}
 use Rattle.model.specs.State.{memory, lengths_fit}
 use Rattle.model.specs.Monitor.{started}
-use Rattle.calls.proofs.set_up.Statement.{statement}
-use Rattle.calls.proofs.set_up.Tie as tie
+use Rattle.calls.proofs.set_up.Goals as goal
 
 -- a passed order's top fits a byte
 top-fits : (o : Order) → order_passes o ≡ true → o.top % 0x100 ≡ o.top
@@ -34,24 +27,9 @@ is-started o bs ws fits ok =
     let t = top-fits o ok in
     λ i. memory (set_record (replicate (b i) 0) 0 1 (t i) (t i) 0 0 0 0) (replicate (w i) 0)
 
-returns : tie.Need-returns
+pub returns : goal.returns
 returns c =
-    let r = c.before.before.before.before.before.before in
-    let z = r.before.before.before.before in
-    let s = z.before.before.before.before.before in
-    let t = s.args.order.top % 0x100 in
-    let bytes = r.set-record.ensures ∙ ap (λ (l : List ℕ). set_record l 0 1 t t 0 0 0 0) z.clear-all.ensures in
-    let words = c.before.before.clear-all2.ensures in
-    (λ i. memory (bytes i) (words i)) ∙ is-started s.args.order s.args.bytes.now s.args.words.now s.requires.0 s.requires.1
-
-pub set-up-spec : {M : Type 1} → statement M
-set-up-spec =
-    tie.close
-    (tie.spec
-    (λ c. search rules)
-    (λ c κs. search rules)
-    (λ c κs. search rules)
-    (λ c κs. search rules)
-    (λ c. search rules)
-    (λ c. search rules)
-    returns)
+    let t = c.args.order.top % 0x100 in
+    let bytes = c.set_record.ensures ∙ ap (λ (l : List ℕ). set_record l 0 1 t t 0 0 0 0) c.clear_all.ensures in
+    let words = c.clear_all-2.ensures in
+    (λ i. memory (bytes i) (words i)) ∙ is-started c.args.order c.args.bytes.now c.args.words.now c.requires.0 c.requires.1

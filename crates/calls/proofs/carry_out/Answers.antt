@@ -1,0 +1,40 @@
+use Rattle.std.proofs.Common.{sym, ap, ◌∙◌, not}
+use Rattle.model.specs.State.{memory}
+use Rattle.calls.proofs.Rows.{ready}
+use Rattle.calls.proofs.Entering.{start-entry, state-entry, order-entry, event-entry}
+use Rattle.calls.proofs.carry_out.Goals as goal
+
+pub returns-in-Start : goal.returns-in-Start
+returns-in-Start c = start-entry c.args.order (memory c.args.bytes.now c.args.words.now) c.args.call c.in-Start.is c.on_zero.ensures c.start.ensures
+
+-- each row is told by what was tested, wherever in the function that was
+pub returns-then-not-fits : goal.returns-then-not-fits
+returns-then-not-fits c =
+    let f = ap not (sym c.fits.ensures ∙ c.if-not-fits.true) in
+    state-entry c.args.order (memory c.args.bytes.now c.args.words.now) c.args.call c.in_default.not-Start f c.on_zero-then-not-fits.ensures
+
+pub returns-then-not-order_passes : goal.returns-then-not-order_passes
+returns-then-not-order_passes c =
+    let f = ap not (sym c.fits.ensures ∙ c.if-not-fits.false) in
+    let p = ap not (sym c.order_passes.ensures ∙ c.if-not-order_passes.true) in
+    order-entry c.args.order (memory c.args.bytes.now c.args.words.now) c.args.call c.in_default.not-Start f p c.on_zero-then-not-order_passes.ensures
+
+pub asker-number-requires : goal.asker-number-requires
+asker-number-requires c =
+    let f = ap not (sym c.fits.ensures ∙ c.if-not-fits.false) in
+    let p = ap not (sym c.order_passes.ensures ∙ c.if-not-order_passes.false) in
+    (ready c.args.order (memory c.args.bytes.now c.args.words.now) f p).0
+
+pub event-answer-requires : goal.event-answer-requires
+event-answer-requires c =
+    let f = ap not (sym c.fits.ensures ∙ c.if-not-fits.false) in
+    let p = ap not (sym c.order_passes.ensures ∙ c.if-not-order_passes.false) in
+    ready c.args.order (memory c.args.bytes.now c.args.words.now) f p
+
+pub returns : goal.returns
+returns c =
+    let f = ap not (sym c.fits.ensures ∙ c.if-not-fits.false) in
+    let p = ap not (sym c.order_passes.ensures ∙ c.if-not-order_passes.false) in
+    let m = memory c.args.bytes.now c.args.words.now in
+    let q = event-entry c.args.order m c.args.call c.in_default.not-Start (ready c.args.order m f p) c.event-answer.result c.event-answer.ensures (c.asker-number.ensures.0 c.args.words.now) c.asker-number.ensures.1 in
+    (q.0, q.1, q.2)
