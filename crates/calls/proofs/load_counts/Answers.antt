@@ -2,7 +2,7 @@ use Rattle.std.proofs.Common.{refl, ap, ◌∙◌}
 use Rattle.model.specs.State.{memory}
 use Rattle.model.specs.Tallies.{tallied}
 use Rattle.tallies.specs.Counts.{records_in}
-use Rattle.tallies.specs.EntryLaws.{loaded_is}
+use Rattle.tallies.proofs.EntryLaws.{loaded_is}
 use Rattle.calls.proofs.Entering.{counted-length}
 use Rattle.calls.proofs.load_counts.Goals as goal
 
