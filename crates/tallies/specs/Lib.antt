@@ -1,4 +1,5 @@
 pub mod Entries
 pub mod Counts
+pub mod EntryLaws
 pub mod AskerLaws
 pub mod CountLaws

@@ -33,7 +33,6 @@ fn one_more(n: u32) -> u32
 }
 
 // The record with a verdict counted.
-#[tactic(auto, unfolding(model::specs::Tallies::raised))]
 fn raise(tally: Tally, verdict: u8) -> Tally
     ensures { result ≡ raised tally verdict }
 {
@@ -65,7 +64,6 @@ fn raise(tally: Tally, verdict: u8) -> Tally
 }
 
 // The number, if it names a task; otherwise 0.
-#[tactic(auto, using(crate::specs::AskerLaws::a_task, crate::specs::AskerLaws::no_task))]
 fn if_task(bytes: &[u8], x: u16) -> u16
     requires { BytesLent bytes.now }
     ensures { ((ws : List ℕ) → result ≡ if_task (memory bytes.now ws) x) × (result < numbers) }
@@ -99,6 +97,7 @@ pub fn asker(bytes: &[u8], call: Call) -> u16
 }
 
 // Enters a call in its list: what begins anew zeroes it first, then one record is raised. A list of another length stays as it is.
+#[tactic(auto, using(crate::specs::EntryLaws::unfit_kept))]
 pub fn enter(tallies: &mut [Tally], entry: Entry)
     requires { InList entry }
     ensures { tallies.new ≡ entered_as entry tallies.old }

@@ -5,7 +5,7 @@ use Rattle.rows.specs.Size.{numbers}
 use Rattle.model.specs.declared.Tally.{Tally}
 use Rattle.model.specs.Tallies.{nothing_counted, raised_at}
 use Rattle.tallies.specs.Entries.{first_zeroed}
-use Rattle.tallies.proofs.EntryLaws.{at_most, unfit_kept, fit_entered}
+use Rattle.tallies.specs.EntryLaws.{at_most, fit_entered}
 use Rattle.tallies.proofs.enter.Goals as goal
 
 -- ---- lists: the first k records zeroed, as in `borrow.Author.Fill`, which is for numbers
@@ -18,9 +18,6 @@ fill_suc (suc k) t (u ∷ us) l = ap (λ (vs : List Tally). t ∷ vs) (fill_suc 
 
 fill_more : (k : ℕ) (t : Tally) (ts : List Tally) → k < length ts → set (replicate k t ++ drop k ts) k t ≡ replicate (k + 1) t ++ drop (k + 1) ts
 fill_more k t ts l = let e : k + 1 ≡ suc k = omega arith in subst (λ (j : ℕ). set (replicate k t ++ drop k ts) k t ≡ replicate j t ++ drop j ts) (sym e) (fill_suc k t ts l)
-
-pub returns-then-tallies-ne-RECORDS : goal.returns-then-tallies-ne-RECORDS
-returns-then-tallies-ne-RECORDS c = unfit_kept c.args.entry c.args.tallies.now c.if-tallies-ne-RECORDS.true
 
 pub loop-i-init : goal.loop-i-init
 loop-i-init c = record {
@@ -47,4 +44,4 @@ returns c =
     let left = c.loop-i.invariant.filled ∙ ap (λ (k : ℕ). first_zeroed k ts) done in
     ap (λ (t : Tally). set c.loop-i.tallies n.number t) c.raise-after.ensures
     ∙ ap (raised_at n.number n.answer.verdict) left
-    ∙ fit_entered n ts c.if-tallies-ne-RECORDS.false
+    ∙ fit_entered n ts (omega arith)
