@@ -61,6 +61,7 @@ pub fn end_of(line: &[u8], at: usize) -> usize
     i
 }
 
+#[tactic(auto, using(crate::specs::PiecesLaws::too_short, crate::specs::PiecesLaws::too_long, crate::specs::PiecesLaws::number_read), unfolding(crate::specs::Pieces::number_of))]
 fn number_of(piece: &[u8]) -> Value
     ensures { result ≡ number_of piece.now }
 {

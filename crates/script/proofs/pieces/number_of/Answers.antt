@@ -2,16 +2,8 @@ use Rattle.std.proofs.Common.{refl, ◌∙◌, ◌-◌, get_or, le-leb, arith}
 use Rattle.std.proofs.lemmas.Bool.{lt-leb}
 use Rattle.bits.specs.AllLaws.{and-false}
 use Rattle.script.specs.Pieces.{number_of}
-use Rattle.script.specs.PiecesLaws.{too_short, too_long, no_digits, digits_at, value_at, digit_fits, number_read}
+use Rattle.script.specs.PiecesLaws.{no_digits, digits_at, value_at, digit_fits, number_read}
 use Rattle.script.proofs.pieces.number_of.Goals as goal
-
-pub returns-then-piece-eq0 : goal.returns-then-piece-eq0
-unfolding number_of
-returns-then-piece-eq0 c = rw (too_short c.args.piece.now (omega arith))
-
-pub returns-then-piece-gt-MOST_DIGITS : goal.returns-then-piece-gt-MOST_DIGITS
-unfolding number_of
-returns-then-piece-gt-MOST_DIGITS c = rw (too_long c.args.piece.now c.if-piece-gt-MOST_DIGITS.true)
 
 pub loop-i-init : goal.loop-i-init
 loop-i-init c = record { within = omega arith; small = omega arith; are_digits = refl; valued = refl }
@@ -46,12 +38,7 @@ loop-i-preserved c =
       valued = c.loop-i.invariant.valued ∙ value_at c.loop-i.v p c.loop-i.i (omega arith);
     }
 
-pub returns-then-v-gt65535 : goal.returns-then-v-gt65535
-returns-then-v-gt65535 c =
-    let p = c.args.piece.now in
-    rw (number_read p c.loop-i.v c.loop-i.i (omega arith) (omega arith) (omega arith) c.loop-i.invariant.are_digits c.loop-i.invariant.valued, lt-leb _ _ c.if-v-gt65535.true)
-
 pub returns : goal.returns
 returns c =
     let p = c.args.piece.now in
-    rw (number_read p c.loop-i.v c.loop-i.i (omega arith) (omega arith) (omega arith) c.loop-i.invariant.are_digits c.loop-i.invariant.valued, le-leb _ _ c.if-v-gt65535.false)
+    rw (number_read p c.loop-i.v c.loop-i.i (omega arith) (omega arith) (omega arith) c.loop-i.invariant.are_digits c.loop-i.invariant.valued, le-leb c.loop-i.v 65535 (omega arith))
