@@ -16,6 +16,7 @@ pub struct Done {
     pub order: Order,
 }
 
+#[tactic(auto, unfolding(crate::specs::Lines::started_with, crate::specs::Lines::answered))]
 fn start(bytes: &mut [u8], words: &mut [u64], counts: &mut [u32], kept: Order, order: Order) -> Done
     ensures { leaves result bytes.new words.new counts.new ≡ started_with (memory bytes.old words.old) (records_in counts.old) kept order }
 {

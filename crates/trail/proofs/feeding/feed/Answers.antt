@@ -19,7 +19,7 @@ loop-i-preserved-then-b-eq10 c =
       omega arith,
       omega arith,
       omega (arith, e.ensures.1),
-      byte_ended c.args.piece.now l.i _ (omega arith) c.if-b-eq10.true s.8 e.ensures.0,
+      byte_ended c.args.piece.now l.i _ (omega arith) (omega arith) s.8 e.ensures.0,
     )
 
 pub loop-i-preserved-then-filled-eq-KEPT : goal.loop-i-preserved-then-filled-eq-KEPT
@@ -34,7 +34,7 @@ loop-i-preserved-then-filled-eq-KEPT c =
       s.5,
       omega arith,
       omega arith,
-      byte_kept c.args.piece.now l.i _ (omega arith) c.if-b-eq10.false s.8 (kept_full l.line l.filled _ c.if-filled-eq-KEPT.true (omega arith)),
+      byte_kept c.args.piece.now l.i _ (omega arith) (λ h. omega arith) s.8 (kept_full l.line l.filled _ c.if-filled-eq-KEPT.true (omega arith)),
     )
 
 pub loop-i-preserved : goal.loop-i-preserved
@@ -49,7 +49,7 @@ loop-i-preserved c =
       omega arith,
       omega arith,
       omega arith,
-      byte_kept c.args.piece.now l.i _ (omega arith) c.if-b-eq10.false s.8 (kept_more l.line l.filled _ (omega arith) (omega arith)),
+      byte_kept c.args.piece.now l.i _ (omega arith) (λ h. omega arith) s.8 (kept_more l.line l.filled _ (omega arith) (omega arith)),
     )
 
 pub returns : goal.returns

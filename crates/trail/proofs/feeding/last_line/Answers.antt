@@ -3,7 +3,7 @@ use Rattle.trail.specs.BufferLaws.{no_last, some_last}
 use Rattle.trail.proofs.feeding.last_line.Goals as goal
 
 pub returns-then-line-eq0 : goal.returns-then-line-eq0
-returns-then-line-eq0 c = (no_last _ _ c.if-line-eq0.true, omega arith)
+returns-then-line-eq0 c = (no_last _ _ (omega arith), omega arith)
 
 pub returns : goal.returns
-returns c = (c.end_line.ensures.0 ∙ some_last _ _ c.if-line-eq0.false, c.end_line.ensures.1)
+returns c = (c.end_line.ensures.0 ∙ some_last _ _ (λ h. omega arith), c.end_line.ensures.1)
