@@ -9,12 +9,12 @@ use borrow.Author.Tests.{eq-eqb, eqb-true, lt-leb}
 use Rattle.bits.specs.WordsLaws.{in_zeros, in_words_law}
 use Rattle.bits.specs.AllLaws.{either, not_so, and_i, and-false}
 use Rattle.rows.specs.Size.{present, row_size, numbers, lent_words}
-use Rattle.rows.specs.RowLaws.{cell_zeros}
+use Rattle.rows.proofs.RowLaws.{cell_zeros}
 use Rattle.levels.specs.declared.Order.{Order}
 use Rattle.levels.specs.Order.{most_levels, count_fits, order_passes}
 use Rattle.records.specs.Records.{sound, lent_bytes}
 use Rattle.records.specs.RecordLaws.{core_task}
-use Rattle.records.specs.KeepLaws.{field_zero}
+use Rattle.records.proofs.KeepLaws.{field_zero}
 use Rattle.model.specs.declared.Call.{Call}
 use Rattle.model.specs.declared.Call.TheVariants.{Start}
 use Rattle.model.specs.Verdicts.{granted, is_done, row_order}

@@ -5,7 +5,7 @@ use Rattle.rows.specs.Size.{numbers}
 use Rattle.model.specs.declared.Tally.{Tally}
 use Rattle.model.specs.Tallies.{nothing_counted, raised_at}
 use Rattle.tallies.specs.Entries.{first_zeroed}
-use Rattle.tallies.specs.EntryLaws.{at_most, fit_entered}
+use Rattle.tallies.proofs.EntryLaws.{at_most, fit_entered}
 use Rattle.tallies.proofs.enter.Goals as goal
 
 -- ---- lists: the first k records zeroed, as in `borrow.Author.Fill`, which is for numbers

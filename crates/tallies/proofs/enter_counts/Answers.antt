@@ -4,7 +4,7 @@ use Rattle.model.specs.declared.Tally.{Tally}
 use Rattle.model.specs.Tallies.{raised_at}
 use Rattle.tallies.specs.Counts.{records_in}
 use Rattle.tallies.specs.CountLaws.{records_count}
-use Rattle.tallies.specs.EntryLaws.{at_most, unfit_kept, fit_entered}
+use Rattle.tallies.proofs.EntryLaws.{at_most, unfit_kept, fit_entered}
 use Rattle.tallies.proofs.enter_counts.Goals as goal
 
 pub returns-then-records_in-ne-RECORDS : goal.returns-then-records_in-ne-RECORDS
