@@ -1,7 +1,7 @@
 #!/usr/bin/env python3
 """Brings the repository's own names to today's spelling: definitions and lemmas in snake case.
 
-usage: python3 tools/respell.py [FOLDER]      once, after /opt/rattle/port/port.py, at the top of a checkout
+usage: python3 tools/respell.py [FOLDER]      once, after the kit's port.py, at the top of a checkout
 
 A name that begins with a small letter and has a hyphen or a capital inside is turned where it stands: in specs/, in proofs/, in
 the clauses and imports of src/, and in the words of must-fail edits. A name that a library has, or that the check makes, stays.

@@ -97,7 +97,7 @@ pub fn asker(bytes: &[u8], call: Call) -> u16
 }
 
 // Enters a call in its list: what begins anew zeroes it first, then one record is raised. A list of another length stays as it is.
-#[tactic(auto, using(crate::specs::EntryLaws::unfit_kept))]
+#[tactic(auto, using(crate::proofs::EntryLaws::unfit_kept))]
 pub fn enter(tallies: &mut [Tally], entry: Entry)
     requires { InList entry }
     ensures { tallies.new ≡ entered_as entry tallies.old }
@@ -162,7 +162,7 @@ fn raise_counts(counts: &mut [u32], number: usize, verdict: u8)
     counts[i + 2] = after.refused;
 }
 
-// Enters a call in a list of plain numbers, as programs in Rattle lend it: what goes through a reference to structs is proved by hand.
+// Enters a call in a list of plain numbers, as programs in Rattle lend it.
 pub fn enter_counts(counts: &mut [u32], entry: Entry)
     requires { InList entry }
     ensures { (records_in counts.new ≡ entered_as entry (records_in counts.old)) × (left_over counts.new ≡ left_over counts.old) }
