@@ -1,11 +1,6 @@
-pub mod BufferLaws
 pub mod Buffers
 pub mod Claims
 pub mod Feeding
-pub mod FeedingLaws
 pub mod Lines
-pub mod LinesLaws
 pub mod Marked
-pub mod MarkedLaws
-pub mod Proved
 pub mod Script

@@ -1,6 +1,6 @@
 use Rattle.std.proofs.Common.{refl, ap, ◌∙◌, arith}
 use Rattle.trail.specs.declared.feeding.State.{State}
-use Rattle.trail.specs.BufferLaws.{no_input, input_more}
+use Rattle.trail.proofs.BufferLaws.{no_input, input_more}
 use Rattle.trail.proofs.read_all.Goals as goal
 
 pub loop-turns-init : goal.loop-turns-init

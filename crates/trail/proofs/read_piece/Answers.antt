@@ -1,6 +1,6 @@
 use Rattle.std.proofs.Common.{refl, ap}
 use Rattle.trail.specs.Feeding.{emptied}
-use Rattle.trail.specs.BufferLaws.{no_piece}
+use Rattle.trail.proofs.BufferLaws.{no_piece}
 use Rattle.trail.proofs.read_piece.Goals as goal
 
 pub returns-in-Err : goal.returns-in-Err

@@ -1,4 +1,4 @@
-use Rattle.trail.specs.BufferLaws.{some_script}
+use Rattle.trail.proofs.BufferLaws.{some_script}
 use Rattle.trail.proofs.run.Goals as goal
 
 pub returns : goal.returns

@@ -1,7 +1,7 @@
 use Rattle.std.proofs.Common.{refl, arith}
 use Rattle.script.specs.PrintLaws.{reply_within}
 use Rattle.trail.specs.Buffers.{progress_in}
-use Rattle.trail.specs.BufferLaws.{line_answered}
+use Rattle.trail.proofs.BufferLaws.{line_answered}
 use Rattle.trail.proofs.feeding.end_line.Goals as goal
 
 pub returns : goal.returns

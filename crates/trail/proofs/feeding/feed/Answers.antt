@@ -1,6 +1,6 @@
 use Rattle.std.proofs.Common.{refl, ◌∙◌, arith, length-set, take_all}
 use Rattle.trail.specs.Feeding.{after_piece}
-use Rattle.trail.specs.BufferLaws.{byte_ended, byte_kept, kept_more, kept_full}
+use Rattle.trail.proofs.BufferLaws.{byte_ended, byte_kept, kept_more, kept_full}
 use Rattle.trail.proofs.feeding.feed.Goals as goal
 
 pub loop-i-init : goal.loop-i-init

@@ -1,6 +1,6 @@
 use Rattle.std.proofs.Common.{arith}
 use Rattle.trail.specs.Buffers.{reading_in}
-use Rattle.trail.specs.BufferLaws.{all_told}
+use Rattle.trail.proofs.BufferLaws.{all_told}
 use Rattle.trail.proofs.feeding.finish.Goals as goal
 
 pub returns : goal.returns

@@ -1,5 +1,5 @@
 use Rattle.std.proofs.Common.{◌∙◌, arith}
-use Rattle.trail.specs.BufferLaws.{no_last, some_last}
+use Rattle.trail.proofs.BufferLaws.{no_last, some_last}
 use Rattle.trail.proofs.feeding.last_line.Goals as goal
 
 pub returns-then-line-eq0 : goal.returns-then-line-eq0

@@ -3,7 +3,7 @@ use Rattle.model.specs.State.{memory}
 use Rattle.model.specs.Tallies.{performed}
 use Rattle.tallies.specs.Counts.{records_in}
 use Rattle.trail.specs.Lines.{reply_to, asked}
-use Rattle.trail.specs.LinesLaws.{answered_is}
+use Rattle.trail.proofs.LinesLaws.{answered_is}
 use Rattle.trail.proofs.lines.ask.Goals as goal
 
 pub returns : goal.returns

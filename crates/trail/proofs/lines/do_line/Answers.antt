@@ -1,6 +1,6 @@
 use Rattle.std.proofs.Common.{sym, ◌∙◌}
 use Rattle.trail.specs.Lines.{done_by}
-use Rattle.trail.specs.LinesLaws.{line_is}
+use Rattle.trail.proofs.LinesLaws.{line_is}
 use Rattle.trail.proofs.lines.do_line.Goals as goal
 
 pub returns-in-Bad : goal.returns-in-Bad

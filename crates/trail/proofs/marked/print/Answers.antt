@@ -1,6 +1,6 @@
 use Rattle.std.proofs.Common.{arith, ◌+◌}
 use Rattle.trail.specs.Marked.{marked_text}
-use Rattle.trail.specs.MarkedLaws.{IsNext, next, none_yet, one_more_law, all_listed}
+use Rattle.trail.proofs.MarkedLaws.{IsNext, next, none_yet, one_more_law, all_listed}
 use Rattle.trail.proofs.marked.print.Goals as goal
 
 pub loop-n-init : goal.loop-n-init

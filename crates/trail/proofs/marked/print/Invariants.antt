@@ -1,6 +1,6 @@
 use Rattle.std.proofs.Common.{◌-◌}
 use Rattle.rows.specs.Size.{numbers}
-use Rattle.trail.specs.MarkedLaws.{UpTo}
+use Rattle.trail.proofs.MarkedLaws.{UpTo}
 use Rattle.trail.proofs.marked.print.Given as goal
 
 abbrev pub invariant-loop-n : goal.invariant-loop-n

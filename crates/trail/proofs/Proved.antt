@@ -33,13 +33,13 @@ use Rattle.containment.proofs.Trails.{entered_memory}
 use Rattle.containment.proofs.Proved.{containment, spread_granted}
 use Rattle.trail.specs.Lines.{answered, asked, started_with, done_by, line_done}
 use Rattle.trail.specs.Marked.{is_marked, marked_line}
-use Rattle.trail.specs.MarkedLaws.{listed_alike}
+use Rattle.trail.proofs.MarkedLaws.{listed_alike}
 use Rattle.trail.specs.Script.{Progress, lines, zeros, nothing_read, after_line, after_lines, with_marked, at_end, output}
 use Rattle.model.proofs.TallyLaws.{zeroed_fits, call_out, call_left_fits, start_counted}
 use Rattle.trail.specs.Feeding.{nothing_fed}
-use Rattle.trail.specs.FeedingLaws.{written_is, whole, closed_whole}
+use Rattle.trail.proofs.FeedingLaws.{written_is, whole, closed_whole}
 use Rattle.trail.specs.Claims.{joined, InPieces, EndsAlike, ListsMarked, calls_by, calls_of, calls, unstarted, standing, Begun, RunsLists, ScriptContained, OverSixteen}
-pub use Rattle.trail.specs.FeedingLaws.{pieces_joined}
+pub use Rattle.trail.proofs.FeedingLaws.{pieces_joined}
 
 pub in_pieces : InPieces
 in_pieces cs = written_is cs nothing_fed ∙ whole (joined cs)

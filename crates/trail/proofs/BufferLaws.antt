@@ -17,10 +17,10 @@ use Rattle.script.specs.Print.{line_feed, reply_line, Printed}
 use Rattle.script.specs.PrintLaws.{reply_short, printed_whole, printed_length}
 use Rattle.trail.specs.Lines.{leaves, line_done}
 use Rattle.trail.specs.Marked.{marked_line}
-use Rattle.trail.specs.MarkedLaws.{marked_short}
+use Rattle.trail.proofs.MarkedLaws.{marked_short}
 use Rattle.trail.specs.Script.{Progress, zeros, nothing_read, after_line, with_marked}
 use Rattle.trail.specs.Feeding.{line_size, Reading, nothing_fed, after_byte, after_piece, last_line, closed, finished, emptied}
-use Rattle.trail.specs.FeedingLaws.{pieces_joined, piece_emptied, finished_memory, finished_tallies}
+use Rattle.trail.proofs.FeedingLaws.{pieces_joined, piece_emptied, finished_memory, finished_tallies}
 use Rattle.trail.specs.Buffers.{answer_size, marked_size, progress_in, reading_in, SomeInput, SomeScript}
 use Rattle.trail.specs.declared.lines.Done.{Done}
 use Rattle.trail.specs.declared.feeding.State.{State}

@@ -1,0 +1,5 @@
+pub mod FeedingLaws
+pub mod BufferLaws
+pub mod LinesLaws
+pub mod MarkedLaws
+pub mod Proved
