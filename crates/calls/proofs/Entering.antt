@@ -28,7 +28,7 @@ use Rattle.model.specs.Told.{no_word}
 use Rattle.tallies.specs.declared.Entry.{Entry}
 use Rattle.tallies.specs.Entries.{InList, Enters}
 use Rattle.calls.specs.Entered.{CallEntry, LoadEntry}
-use Rattle.calls.proofs.Rows.{passed, stopped, no-rounds, unfit, disordered}
+use Rattle.calls.proofs.Rows.{passed, stopped, no_rounds, unfit, disordered}
 
 -- what `on_zero` says of its entry
 abbrev pub OnZero : Entry → ℕ → Type 0
@@ -38,34 +38,34 @@ either_way : (y : Bool) (n : ℕ) → cond y n n ≡ n
 either_way true n = refl
 either_way false n = refl
 
-start-on-zero : (m : Memory) (v : ℕ) → counted_on m Start v ≡ 0
+start_on_zero : (m : Memory) (v : ℕ) → counted_on m Start v ≡ 0
 unfolding counted_on asker
-start-on-zero m v = either_way (past_order v) 0
+start_on_zero m v = either_way (past_order v) 0
 
 -- on record 0, where the model says so
 on_zero : (m : Memory) (call : Call) {out : Outcome} {r : Entry} {v : ℕ} {bs ws : List ℕ} → OnZero r v → counted_on m call v ≡ 0 → (is_start call && eqb v granted) ≡ eqb v granted → left v 0 bs ws ≡ out → CallEntry m call out r bs ws
 on_zero m call z i a d =
-    (no-rounds (z.0, z.1, z.4) d, (z.2.0 ∙ sym (ap (counted_on m call) z.0 ∙ i), z.2.1 ∙ sym (ap (λ n. is_start call && eqb n granted) z.0 ∙ a)), z.3)
+    (no_rounds (z.0, z.1, z.4) d, (z.2.0 ∙ sym (ap (counted_on m call) z.0 ∙ i), z.2.1 ∙ sym (ap (λ n. is_start call && eqb n granted) z.0 ∙ a)), z.3)
 
 module _ (o : Order) (m : Memory) (call : Call) where
-  pub start-entry : call ≡ Start → {r : Entry} {v : ℕ} {bs ws : List ℕ} → OnZero r v → left v 0 bs ws ≡ start o m → CallEntry m call (perform o m call) r bs ws
+  pub start_entry : call ≡ Start → {r : Entry} {v : ℕ} {bs ws : List ℕ} → OnZero r v → left v 0 bs ws ≡ start o m → CallEntry m call (perform o m call) r bs ws
   unfolding is_start
-  start-entry e {v = v} z d = on_zero m call z (ap (λ (c : Call). counted_on m c v) e ∙ start-on-zero m v) (ap (λ (c : Call). is_start c && eqb v granted) e) (d ∙ ap (perform o m) (sym e))
+  start_entry e {v = v} z d = on_zero m call z (ap (λ (c : Call). counted_on m c v) e ∙ start_on_zero m v) (ap (λ (c : Call). is_start c && eqb v granted) e) (d ∙ ap (perform o m) (sym e))
 
   module _ (later : call ≡ Start → ⊥) where
-    pub state-entry : not (lengths_fit m && sound o m.bytes) ≡ true → {r : Entry} → OnZero r row_state → CallEntry m call (perform o m call) r m.bytes m.words
+    pub state_entry : not (lengths_fit m && sound o m.bytes) ≡ true → {r : Entry} → OnZero r row_state → CallEntry m call (perform o m call) r m.bytes m.words
     unfolding counted_on past_order
-    state-entry f z = on_zero m call z refl (and-false (is_start call)) (sym (unfit o m call later f))
+    state_entry f z = on_zero m call z refl (and-false (is_start call)) (sym (unfit o m call later f))
 
-    pub order-entry : not (lengths_fit m && sound o m.bytes) ≡ false → not (order_passes o) ≡ true → {r : Entry} → OnZero r row_order → CallEntry m call (perform o m call) r m.bytes m.words
+    pub order_entry : not (lengths_fit m && sound o m.bytes) ≡ false → not (order_passes o) ≡ true → {r : Entry} → OnZero r row_order → CallEntry m call (perform o m call) r m.bytes m.words
     unfolding counted_on past_order
-    order-entry f p z = on_zero m call z refl (and-false (is_start call)) (sym (disordered o m call later f p))
+    order_entry f p z = on_zero m call z refl (and-false (is_start call)) (sym (disordered o m call later f p))
 
     -- past rows 2 and 3: on the asker's
-    pub event-entry : Ready o m.bytes m.words → (a : Answer) {k : ℕ} {bs ws : List ℕ} → left a.verdict a.rounds bs ws ≡ perform o m call → k ≡ asker m call → k < numbers
+    pub event_entry : Ready o m.bytes m.words → (a : Answer) {k : ℕ} {bs ws : List ℕ} → left a.verdict a.rounds bs ws ≡ perform o m call → k ≡ asker m call → k < numbers
         → CallEntry m call (perform o m call) (record { answer = a; number = k; anew = false }) bs ws
     unfolding counted_on
-    event-entry r a {k} d e l =
+    event_entry r a {k} d e l =
         let past = past_rows o r.2 m (ready_sound o m r) call in
         let v = ap (λ (out : Outcome). out.verdict) d in
         (d, (e ∙ sym (ap (λ b. cond b (asker m call) 0) (ap past_order v ∙ past)), sym (ap (λ b. b && eqb a.verdict granted) (not_start call later))), l)
@@ -80,14 +80,14 @@ module _ (m : Memory) (lent : ℕ) (out : Outcome) where
   another e = sym (stopped (eqb lent numbers) row_state m out (ne_eqb _ _ e))
 
   -- a call that is lent a list of another length
-  pub another-entry : (call : Call) → (lent ≡ numbers → ⊥) → {r : Entry} → OnZero r row_state → CallEntry m call (refused_unless (eqb lent numbers) row_state m out) r m.bytes m.words
+  pub another_entry : (call : Call) → (lent ≡ numbers → ⊥) → {r : Entry} → OnZero r row_state → CallEntry m call (refused_unless (eqb lent numbers) row_state m out) r m.bytes m.words
   unfolding counted_on past_order
-  another-entry call e z = on_zero m call z refl (and-false (is_start call)) (another e)
+  another_entry call e z = on_zero m call z refl (and-false (is_start call)) (another e)
 
 -- a load, by what it came to
-pub load-entry : {out : Outcome} {r : Entry} {v : ℕ} {bs ws : List ℕ} → OnZero r v → left v 0 bs ws ≡ out → LoadEntry out r bs ws
-load-entry z d = (no-rounds (z.0, z.1, z.4) d, (z.2.0, z.2.1 ∙ sym (ap (λ n. eqb n granted) z.0)), z.3, z.4)
+pub load_entry : {out : Outcome} {r : Entry} {v : ℕ} {bs ws : List ℕ} → OnZero r v → left v 0 bs ws ≡ out → LoadEntry out r bs ws
+load_entry z d = (no_rounds (z.0, z.1, z.4) d, (z.2.0, z.2.1 ∙ sym (ap (λ n. eqb n granted) z.0)), z.3, z.4)
 
 -- the length as it was counted
-pub counted-length : (m : Memory) (out : Outcome) {k n : ℕ} → k ≡ n → refused_unless (eqb k numbers) row_state m out ≡ refused_unless (eqb n numbers) row_state m out
-counted-length m out e = ap (λ l. refused_unless (eqb l numbers) row_state m out) e
+pub counted_length : (m : Memory) (out : Outcome) {k n : ℕ} → k ≡ n → refused_unless (eqb k numbers) row_state m out ≡ refused_unless (eqb n numbers) row_state m out
+counted_length m out e = ap (λ l. refused_unless (eqb l numbers) row_state m out) e

@@ -26,14 +26,14 @@ use Rattle.calls.proofs.Rows.{passed, stopped}
 -- ---- a load begins as a start
 
 module _ (o : Order) (m : Memory) (t : List ℕ) where
-  pub load-laid : lengths_fit m ≡ true → order_passes o ≡ true → laid_out o (settled t) ≡ load o m t
+  pub load_laid : lengths_fit m ≡ true → order_passes o ≡ true → laid_out o (settled t) ≡ load o m t
   unfolding load
-  load-laid l p = sym (passed _ row_state m _ l ∙ passed _ row_order m _ p)
+  load_laid l p = sym (passed _ row_state m _ l ∙ passed _ row_order m _ p)
 
   module _ {v : ℕ} {bs ws : List ℕ} (is : left v 0 bs ws ≡ start o m) where
-    pub start-refused : slipped < v → left v 0 bs ws ≡ load o m t
+    pub start_refused : slipped < v → left v 0 bs ws ≡ load o m t
     unfolding start load
-    start-refused h =
+    start_refused h =
         elim (either (lengths_fit m)) [
           | inl l ↦
               elim (either (order_passes o)) [
@@ -43,23 +43,23 @@ module _ (o : Order) (m : Memory) (t : List ℕ) where
           | inr l ↦ is ∙ stopped _ row_state m _ l ∙ sym (stopped _ row_state m _ l)
         ]
 
-    pub start-made : v ≤ slipped → (lengths_fit m ≡ true) × (order_passes o ≡ true) × (memory bs ws ≡ started o)
-    start-made h =
+    pub start_made : v ≤ slipped → (lengths_fit m ≡ true) × (order_passes o ≡ true) × (memory bs ws ≡ started o)
+    start_made h =
         let d = start_done o m (ap (λ (out : Outcome). is_done out.verdict) (sym is) ∙ le-leb v slipped h) in
         (d.0, d.1, ap (λ (out : Outcome). out.memory) (is ∙ d.2))
 
 -- ---- its calls
 
 -- the state of a start has passed them
-pub started-ready : (o : Order) (m : Memory) → order_passes o ≡ true → m ≡ started o → Ready o m.bytes m.words
-started-ready o m p e = subst (λ (v : Memory). Ready o v.bytes v.words) (sym e) (sound_ready o (started o) p (started_sound present o p))
+pub started_ready : (o : Order) (m : Memory) → order_passes o ≡ true → m ≡ started o → Ready o m.bytes m.words
+started_ready o m p e = subst (λ (v : Memory). Ready o v.bytes v.words) (sym e) (sound_ready o (started o) p (started_sound present o p))
 
 -- calls that are all done leave what they made; a refused one leaves the state of a start
 module _ (o : Order) {out : Outcome} {v : ℕ} {bs ws : List ℕ} (is : left v 0 bs ws ≡ out) where
-  pub whole-done : v ≤ slipped → left v 0 bs ws ≡ whole o out
+  pub whole_done : v ≤ slipped → left v 0 bs ws ≡ whole o out
   unfolding whole
-  whole-done l = rw (← is, le-leb v slipped l)
+  whole_done l = rw (← is, le-leb v slipped l)
 
-  pub whole-refused : slipped < v → (m : Memory) → m ≡ started o → left v 0 m.bytes m.words ≡ whole o out
+  pub whole_refused : slipped < v → (m : Memory) → m ≡ started o → left v 0 m.bytes m.words ≡ whole o out
   unfolding whole refusal
-  whole-refused l m e = rw (← is, lt-leb v slipped l, e)
+  whole_refused l m e = rw (← is, lt-leb v slipped l, e)

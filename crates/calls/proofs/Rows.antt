@@ -69,8 +69,8 @@ ready o m f p =
     sound_ready o m (not-false _ p) (and_l (lengths_fit m) (sound o m.bytes) both, and_r (lengths_fit m) (sound o m.bytes) both)
 
 -- a verdict of no rounds, before the driver is told
-pub no-rounds : {out : Outcome} {v w n t : ℕ} {bs ws : List ℕ} → (w ≡ v) × (n ≡ 0) × (t ≡ no_word) → left v 0 bs ws ≡ out → left w n bs ws ≡ out
-no-rounds {out} {v} {w} {n} {t} {bs} {ws} p d = (λ i. left (p.0 i) (p.1 i) bs ws) ∙ d
+pub no_rounds : {out : Outcome} {v w n t : ℕ} {bs ws : List ℕ} → (w ≡ v) × (n ≡ 0) × (t ≡ no_word) → left v 0 bs ws ≡ out → left w n bs ws ≡ out
+no_rounds {out} {v} {w} {n} {t} {bs} {ws} p d = (λ i. left (p.0 i) (p.1 i) bs ws) ∙ d
 
 -- what a call leaves is its event's outcome, at the constructor that the call is
 pub answered : (o : Order) (m : Memory) {call k : Call} {out left : Outcome} → Ready o m.bytes m.words → call ≡ k → perform o m k ≡ fitted o m out → left ≡ out → left ≡ perform o m call

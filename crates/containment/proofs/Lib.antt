@@ -24,3 +24,4 @@ pub mod Trails
 pub mod Direct
 pub mod LoadHistory
 pub mod Proved
+pub mod HistoryTrials

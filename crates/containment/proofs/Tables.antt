@@ -21,7 +21,7 @@ row size flows x = flow_row x
 row size reads x = read_row size x
 row size writes x = write_row size x
 
--- a flow or an access of x to y is recorded there: hasFlow, hasRead or hasWrite
+-- a flow or an access of x to y is recorded there: has_flow, has_read or has_write
 abbrev pub has : {size : Size} → Table → MemoryOf size → ℕ → ℕ → Bool
 has {size} t m x y = cell (row_size_of size) m.words (row size t x) y
 

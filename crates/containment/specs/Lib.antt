@@ -3,7 +3,6 @@ pub mod Chains
 pub mod TallyLists
 pub mod Claims
 pub mod History
-pub mod HistoryTrials
 pub mod TrailClaims
 pub mod TallyClaims
 pub mod ToldClaims

@@ -1,23 +1,23 @@
 use Rattle.std.proofs.Common.{sym, ap, ◌∙◌, not}
 use Rattle.model.specs.State.{memory}
 use Rattle.calls.proofs.Rows.{ready}
-use Rattle.calls.proofs.Entering.{start-entry, state-entry, order-entry, event-entry}
+use Rattle.calls.proofs.Entering.{start_entry, state_entry, order_entry, event_entry}
 use Rattle.calls.proofs.carry_out.Goals as goal
 
 pub returns-in-Start : goal.returns-in-Start
-returns-in-Start c = start-entry c.args.order (memory c.args.bytes.now c.args.words.now) c.args.call c.in-Start.is c.on_zero.ensures c.start.ensures
+returns-in-Start c = start_entry c.args.order (memory c.args.bytes.now c.args.words.now) c.args.call c.in-Start.is c.on_zero.ensures c.start.ensures
 
 -- each row is told by what was tested, wherever in the function that was
 pub returns-then-not-fits : goal.returns-then-not-fits
 returns-then-not-fits c =
     let f = ap not (sym c.fits.ensures ∙ c.if-not-fits.true) in
-    state-entry c.args.order (memory c.args.bytes.now c.args.words.now) c.args.call c.in_default.not-Start f c.on_zero-then-not-fits.ensures
+    state_entry c.args.order (memory c.args.bytes.now c.args.words.now) c.args.call c.in_default.not-Start f c.on_zero-then-not-fits.ensures
 
 pub returns-then-not-order_passes : goal.returns-then-not-order_passes
 returns-then-not-order_passes c =
     let f = ap not (sym c.fits.ensures ∙ c.if-not-fits.false) in
     let p = ap not (sym c.order_passes.ensures ∙ c.if-not-order_passes.true) in
-    order-entry c.args.order (memory c.args.bytes.now c.args.words.now) c.args.call c.in_default.not-Start f p c.on_zero-then-not-order_passes.ensures
+    order_entry c.args.order (memory c.args.bytes.now c.args.words.now) c.args.call c.in_default.not-Start f p c.on_zero-then-not-order_passes.ensures
 
 pub asker-number-requires : goal.asker-number-requires
 asker-number-requires c =
@@ -36,5 +36,5 @@ returns c =
     let f = ap not (sym c.fits.ensures ∙ c.if-not-fits.false) in
     let p = ap not (sym c.order_passes.ensures ∙ c.if-not-order_passes.false) in
     let m = memory c.args.bytes.now c.args.words.now in
-    let q = event-entry c.args.order m c.args.call c.in_default.not-Start (ready c.args.order m f p) c.event-answer.result c.event-answer.ensures (c.asker-number.ensures.0 c.args.words.now) c.asker-number.ensures.1 in
+    let q = event_entry c.args.order m c.args.call c.in_default.not-Start (ready c.args.order m f p) c.event-answer.result c.event-answer.ensures (c.asker-number.ensures.0 c.args.words.now) c.asker-number.ensures.1 in
     (q.0, q.1, q.2)

@@ -1,11 +1,11 @@
 use Rattle.std.proofs.Common.{◌∙◌}
 use Rattle.model.specs.State.{memory}
-use Rattle.calls.proofs.Entering.{another-entry, fitting}
+use Rattle.calls.proofs.Entering.{another_entry, fitting}
 use Rattle.calls.proofs.judge.Goals as goal
 
 pub returns-then-lent-ne-RECORDS : goal.returns-then-lent-ne-RECORDS
 returns-then-lent-ne-RECORDS c =
-    another-entry (memory c.args.bytes.now c.args.words.now) c.args.lent _ c.args.call c.if-lent-ne-RECORDS.true c.on_zero.ensures
+    another_entry (memory c.args.bytes.now c.args.words.now) c.args.lent _ c.args.call c.if-lent-ne-RECORDS.true c.on_zero.ensures
 
 pub returns : goal.returns
 returns c =

@@ -5,37 +5,37 @@ use Rattle.model.specs.Monitor.{refusal}
 use Rattle.model.specs.Load.{in_turn, whole}
 use Rattle.loading.specs.Calls.{calls_in}
 use Rattle.loading.specs.SettledLaws.{settled_fits, settled_broken, settled_deep}
-use Rattle.calls.proofs.Loads.{load-laid, start-refused, start-made, started-ready}
+use Rattle.calls.proofs.Loads.{load_laid, start_refused, start_made, started_ready}
 use Rattle.calls.proofs.load.Goals as goal
 
 pub returns-then-begun-gt-SLIPPED : goal.returns-then-begun-gt-SLIPPED
-returns-then-begun-gt-SLIPPED c = start-refused c.args.order _ c.args.text.now c.start-begun.ensures c.if-begun-gt-SLIPPED.true
+returns-then-begun-gt-SLIPPED c = start_refused c.args.order _ c.args.text.now c.start-begun.ensures c.if-begun-gt-SLIPPED.true
 
 -- the state of a start is made
 pub make-requires : goal.make-requires
 make-requires c =
-    let made = start-made c.args.order _ c.args.text.now c.start-begun.ensures c.if-begun-gt-SLIPPED.false in
-    started-ready c.args.order _ made.1 made.2
+    let made = start_made c.args.order _ c.args.text.now c.start-begun.ensures c.if-begun-gt-SLIPPED.false in
+    started_ready c.args.order _ made.1 made.2
 
 pub returns-in-Fits : goal.returns-in-Fits
 returns-in-Fits c =
     let a = c.args in
-    let made = start-made a.order _ a.text.now c.start-begun.ensures c.if-begun-gt-SLIPPED.false in
+    let made = start_made a.order _ a.text.now c.start-begun.ensures c.if-begun-gt-SLIPPED.false in
     c.make.ensures ∙ ap (λ (v : Memory). whole a.order (in_turn a.order (calls_in a.text.now) v)) made.2
-    ∙ sym (settled_fits a.order a.text.now (sym c.check.ensures ∙ c.in-Fits.is)) ∙ load-laid a.order _ a.text.now made.0 made.1
+    ∙ sym (settled_fits a.order a.text.now (sym c.check.ensures ∙ c.in-Fits.is)) ∙ load_laid a.order _ a.text.now made.0 made.1
 
 pub returns-in-Broken : goal.returns-in-Broken
 unfolding refusal
 returns-in-Broken c =
     let a = c.args in
-    let made = start-made a.order _ a.text.now c.start-begun.ensures c.if-begun-gt-SLIPPED.false in
+    let made = start_made a.order _ a.text.now c.start-begun.ensures c.if-begun-gt-SLIPPED.false in
     ap (λ (v : Memory). record { verdict = row_form; rounds = 0; memory = v }) made.2
-    ∙ sym (settled_broken a.order a.text.now _ (sym c.check.ensures ∙ c.in-Broken.is)) ∙ load-laid a.order _ a.text.now made.0 made.1
+    ∙ sym (settled_broken a.order a.text.now _ (sym c.check.ensures ∙ c.in-Broken.is)) ∙ load_laid a.order _ a.text.now made.0 made.1
 
 pub returns-in-Deep : goal.returns-in-Deep
 unfolding refusal
 returns-in-Deep c =
     let a = c.args in
-    let made = start-made a.order _ a.text.now c.start-begun.ensures c.if-begun-gt-SLIPPED.false in
+    let made = start_made a.order _ a.text.now c.start-begun.ensures c.if-begun-gt-SLIPPED.false in
     ap (λ (v : Memory). record { verdict = row_deep; rounds = 0; memory = v }) made.2
-    ∙ sym (settled_deep a.order a.text.now _ (sym c.check.ensures ∙ c.in-Deep.is)) ∙ load-laid a.order _ a.text.now made.0 made.1
+    ∙ sym (settled_deep a.order a.text.now _ (sym c.check.ensures ∙ c.in-Deep.is)) ∙ load_laid a.order _ a.text.now made.0 made.1

@@ -3,7 +3,7 @@ use Rattle.model.specs.State.{memory}
 use Rattle.model.specs.Tallies.{tallied}
 use Rattle.tallies.specs.Counts.{records_in}
 use Rattle.tallies.proofs.EntryLaws.{loaded_is}
-use Rattle.calls.proofs.Entering.{counted-length}
+use Rattle.calls.proofs.Entering.{counted_length}
 use Rattle.calls.proofs.load_counts.Goals as goal
 
 pub returns-clause-loads : goal.returns-clause-loads
@@ -12,6 +12,6 @@ returns-clause-loads c =
     let m = memory c.args.bytes.now c.args.words.now in
     let ts = records_in c.args.counts.now in (
       ap (tallied _) c.enter_counts.ensures.0
-          ∙ loaded_is c.args.order m ts c.args.text.now _ d.result (d.ensures.0 ∙ counted-length m _ c.records_in-lent.ensures) refl d.ensures.1,
+          ∙ loaded_is c.args.order m ts c.args.text.now _ d.result (d.ensures.0 ∙ counted_length m _ c.records_in-lent.ensures) refl d.ensures.1,
       d.ensures.3,
     )

@@ -3,7 +3,7 @@ use Rattle.model.specs.State.{memory}
 use Rattle.model.specs.Tallies.{tallied}
 use Rattle.tallies.specs.Counts.{records_in}
 use Rattle.tallies.proofs.EntryLaws.{performed_is}
-use Rattle.calls.proofs.Entering.{counted-length}
+use Rattle.calls.proofs.Entering.{counted_length}
 use Rattle.calls.proofs.perform.Goals as goal
 
 pub returns-clause-performs : goal.returns-clause-performs
@@ -12,6 +12,6 @@ returns-clause-performs c =
     let m = memory c.args.bytes.now c.args.words.now in
     let ts = records_in c.args.counts.now in (
       ap (tallied _) c.enter_counts.ensures.0
-          ∙ performed_is c.args.order m ts c.args.call _ d.result (d.ensures.0.0 ∙ counted-length m _ c.records_in-lent.ensures) refl d.ensures.0.1,
+          ∙ performed_is c.args.order m ts c.args.call _ d.result (d.ensures.0.0 ∙ counted_length m _ c.records_in-lent.ensures) refl d.ensures.0.1,
       d.ensures.1,
     )

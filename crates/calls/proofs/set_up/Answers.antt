@@ -11,20 +11,20 @@ use Rattle.model.specs.Monitor.{started}
 use Rattle.calls.proofs.set_up.Goals as goal
 
 -- a passed order's top fits a byte
-top-fits : (o : Order) → order_passes o ≡ true → o.top % 0x100 ≡ o.top
-top-fits o ok =
+top_fits : (o : Order) → order_passes o ≡ true → o.top % 0x100 ≡ o.top
+top_fits o ok =
     let order : IsOrder o = is_order o ok in
     mod-eq_of_lt (omega (arith, (both_in o 0 o.top (order.upper 0 order.some)).1, order.few))
 
 -- zeros as long as what was lent, with the core's record, are the memory of a start
-is-started : (o : Order) (bs ws : List ℕ) → lengths_fit (memory bs ws) ≡ true → order_passes o ≡ true
+is_started : (o : Order) (bs ws : List ℕ) → lengths_fit (memory bs ws) ≡ true → order_passes o ≡ true
     → memory (set_record (replicate (length bs) 0) 0 1 (o.top % 0x100) (o.top % 0x100) 0 0 0 0) (replicate (length ws) 0) ≡ started o
 unfolding started lengths_fit
-is-started o bs ws fits ok =
+is_started o bs ws fits ok =
     let f = simp and-eq-true_iff at fits in
     let b : BytesLent bs = eqb-true _ _ f.0 in
     let w : WordsLent ws = eqb-true _ _ f.1 in
-    let t = top-fits o ok in
+    let t = top_fits o ok in
     λ i. memory (set_record (replicate (b i) 0) 0 1 (t i) (t i) 0 0 0 0) (replicate (w i) 0)
 
 pub returns : goal.returns
@@ -32,4 +32,4 @@ returns c =
     let t = c.args.order.top % 0x100 in
     let bytes = c.set_record.ensures ∙ ap (λ (l : List ℕ). set_record l 0 1 t t 0 0 0 0) c.clear_all.ensures in
     let words = c.clear_all-2.ensures in
-    (λ i. memory (bytes i) (words i)) ∙ is-started c.args.order c.args.bytes.now c.args.words.now c.requires.0 c.requires.1
+    (λ i. memory (bytes i) (words i)) ∙ is_started c.args.order c.args.bytes.now c.args.words.now c.requires.0 c.requires.1

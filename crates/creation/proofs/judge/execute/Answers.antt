@@ -10,18 +10,18 @@ use Rattle.creation.specs.CreationLaws.{execute_verdict}
 use Rattle.creation.proofs.judge.execute.Goals as goal
 
 -- the decision, from its parts: the numbers, the rows below, and the flow
-execute-is : (o : Order) (m : Memory) (c i n l r : ℕ) {v row : ℕ} {named flow : Bool}
+execute_is : (o : Order) (m : Memory) (c i n l r : ℕ) {v row : ℕ} {named flow : Bool}
     → v ≡ given m.bytes named n row
     → named ≡ (task m c && object m i && ltb n numbers)
     → row ≡ unless (in_order o l && in_order o r) row_scale (unless (at_or_below o l (level_of m i) && at_or_below o r l) row_rule granted)
     → flow ≡ marked m i
     → record { verdict = v; first = flow; second = false } ≡ execute_judged o m c i n l r
-execute-is o m c i n l r v named row flow = rw (v, named, row, flow, execute_verdict o m c i n l r)
+execute_is o m c i n l r v named row flow = rw (v, named, row, flow, execute_verdict o m c i n l r)
 
 pub returns : goal.returns
 unfolding task object marked
 returns c =
-    λ ws. execute-is _ _ _ _ _ _ _ c.given.ensures
+    λ ws. execute_is _ _ _ _ _ _ _ c.given.ensures
     (simp (c.is_object.ensures, c.is_task.ensures) refl)
     (simp (c.unless-row.ensures, c.unless.ensures, c.at_or_below.ensures, c.level_below.ensures) refl)
     c.marked.ensures
