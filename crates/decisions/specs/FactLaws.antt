@@ -9,7 +9,12 @@ use Rattle.levels.specs.Order.{most_levels, row_of, related, at_or_below}
 use Rattle.levels.specs.OrderLaws.{is_order, by_row}
 use Rattle.records.specs.Records.{level, read_level}
 use Rattle.records.specs.RecordLaws.{level_below, read_below}
+use Rattle.model.specs.Ready.{Ready}
 use Rattle.decisions.specs.Facts.{Levelled}
+
+-- a state that is ready has such bytes
+pub levelled : (o : Order) (bs ws : List ℕ) → Ready o bs ws → Levelled o bs
+levelled o bs ws r = (r.2, r.3)
 
 module _ (o : Order) (bs : List ℕ) (ok : Levelled o bs) where
   pub level_has_row : (x : ℕ) → level bs x < most_levels

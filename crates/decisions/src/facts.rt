@@ -1,115 +1,165 @@
-// What the events ask of the bytes and the words.
+// What the events ask of a state.
 ghost use Rattle.std.specs.Prelude.{◌≡◌, not, ◌&&◌, ◌+◌, ◌*◌, ◌≤◌, ltb, eqb};
 ghost use Rattle.rows.specs.Rows.{cell};
 ghost use Rattle.rows.specs.Size.{row_size, numbers};
 ghost use Rattle.bits.specs.Bit.{bit};
 ghost use Rattle.levels.specs.Order.{row_of, at_or_below};
 ghost use Rattle.records.specs.Records.{field, is_task, is_object};
-ghost use Rattle.decisions.specs.Facts.{Levelled, writes, both_write};
+ghost use Rattle.model.specs.Ready.{Ready};
+ghost use Rattle.decisions.specs.Facts.{writes, both_write};
 
-use levels::{Order, Rows};
-use records::{FREE, KIND, LEVEL, MARKS, READ_LEVEL};
-use rows::{NUMBERS, WRITES};
+use levels::Order;
+use records::{CONTAINER, DRIVER, FREE, KIND, LEVEL, MARKS, READ_LEVEL};
+use rows::{NUMBERS, READS, WRITES};
 
-// The level l, which is given and may be none of the order, is at or below the level of y.
-pub fn level_below(bytes: &[u8], order: Order, l: u16, y: u16) -> bool
-    ensures { result ≡ at_or_below order l (field bytes.now y 1) }
-{
-    let b = records::field(bytes, y, LEVEL);
-    levels::at_or_below(order, l, b as u16)
+// A state that has passed rows 2 and 3, as an event looks at it: the lengths are right, the order passes, and the bytes are sound
+// under it.
+#[derive(Clone, Copy)]
+pub struct View<'a> {
+    pub bytes: &'a [u8],
+    pub words: &'a [u64],
+    pub order: &'a Order,
+    pub ghost ready: { Ready order.now bytes.now words.now },
 }
 
-// The row of the level of x: the levels that it is at or below.
-pub fn level_row(bytes: &[u8], order: Order, x: u16) -> u16
-    requires { Levelled order bytes.now }
-    ensures { result ≡ row_of order (field bytes.now x 1) }
-{
-    let a = records::field(bytes, x, LEVEL);
-    levels::row_of(order, a as u16)
-}
-
-// The rows of the level and of the read level of x.
-pub fn level_rows(bytes: &[u8], order: Order, x: u16) -> Rows
-    requires { Levelled order bytes.now }
-    ensures { (result.level ≡ row_of order (field bytes.now x 1)) × (result.read ≡ row_of order (field bytes.now x 2)) }
-{
-    let a = records::field(bytes, x, LEVEL);
-    let b = records::field(bytes, x, READ_LEVEL);
-    levels::rows_of(order, a as u16, b as u16)
-}
-
-// The level of y stands in a row. The order is asked for by the contract alone, and so is not copied.
-pub fn reaches(bytes: &[u8], order: Order, row: u16, y: u16) -> bool
-    requires { Levelled order bytes.now }
-    ensures { result ≡ bit row (field bytes.now y 1) }
-{
-    let b = records::field(bytes, y, LEVEL);
-    levels::in_row(row, b as u16)
-}
-
-// The level of x is at or below the level of y.
-pub fn below(bytes: &[u8], order: Order, x: u16, y: u16) -> bool
-    requires { Levelled order bytes.now }
-    ensures { result ≡ at_or_below order (field bytes.now x 1) (field bytes.now y 1) }
-{
-    let row = level_row(bytes, order, x);
-    reaches(bytes, order, row, y)
-}
-
-pub fn marked(bytes: &[u8], x: u16) -> bool
-    ensures { result ≡ not (eqb (field bytes.now x 5) 0) }
-{
-    records::field(bytes, x, MARKS) != 0
-}
-
-pub fn in_use(bytes: &[u8], x: u16) -> bool
-    ensures { result ≡ not (eqb (field bytes.now x 0) 0) }
-{
-    records::field(bytes, x, KIND) != FREE
-}
-
-// Byte f of x, a driver or a container, is the number y.
-pub fn names(bytes: &[u8], x: u16, f: u16, y: u16) -> bool
-    ensures { result ≡ eqb (field bytes.now x f) y }
-{
-    (records::field(bytes, x, f) as u16) == y
-}
-
-// Two tasks and an object, as most calls name them.
-pub fn are_named(bytes: &[u8], e: u16, d: u16, x: u16) -> bool
-    ensures { result ≡ (is_task bytes.now e && is_task bytes.now d && is_object bytes.now x) }
-{
-    if !records::is_task(bytes, e) {
-        return false;
+impl View<'_> {
+    pub fn is_task(&self, x: u16) -> bool
+        ensures { result ≡ is_task self.now.bytes.now x }
+    {
+        records::is_task(self.bytes, x)
     }
-    if !records::is_task(bytes, d) {
-        return false;
+
+    pub fn is_object(&self, x: u16) -> bool
+        ensures { result ≡ is_object self.now.bytes.now x }
+    {
+        records::is_object(self.bytes, x)
     }
-    records::is_object(bytes, x)
-}
 
-// An access of the task e to the object x in a table; a number past the table has none.
-pub fn has_access(words: &[u64], table: u16, e: u16, x: u16) -> bool
-    requires { table ≤ 2 * numbers }
-    ensures { result ≡ (ltb e numbers && cell row_size words.now (table + e) x) }
-{
-    if e < NUMBERS {
-        rows::has(words, table + e, x)
-    } else {
-        false
+    pub fn in_use(&self, x: u16) -> bool
+        ensures { result ≡ not (eqb (field self.now.bytes.now x 0) 0) }
+    {
+        records::field(self.bytes, x, KIND) != FREE
     }
-}
 
-// The task e has write access to x.
-pub fn writes(words: &[u64], e: u16, x: u16) -> bool
-    ensures { result ≡ writes words.now e x }
-{
-    has_access(words, WRITES, e, x)
-}
+    pub fn is_marked(&self, x: u16) -> bool
+        ensures { result ≡ not (eqb (field self.now.bytes.now x 5) 0) }
+    {
+        records::field(self.bytes, x, MARKS) != 0
+    }
 
-// Both tasks have write access to k.
-pub fn both_write(words: &[u64], e: u16, d: u16, k: u16) -> bool
-    ensures { result ≡ both_write words.now e d k }
-{
-    writes(words, e, k) & writes(words, d, k)
+    pub fn are_tasks(&self, a: u16, b: u16) -> bool
+        ensures { result ≡ (is_task self.now.bytes.now a && is_task self.now.bytes.now b) }
+    {
+        self.is_task(a) && self.is_task(b)
+    }
+
+    // Two tasks and an object, as most calls name them.
+    pub fn are_named(&self, e: u16, d: u16, x: u16) -> bool
+        ensures { result ≡ (is_task self.now.bytes.now e && is_task self.now.bytes.now d && is_object self.now.bytes.now x) }
+    {
+        self.are_tasks(e, d) && self.is_object(x)
+    }
+
+    pub fn driver_of(&self, x: u16) -> u16
+        ensures { result ≡ field self.now.bytes.now x 3 }
+    {
+        u16::from(records::field(self.bytes, x, DRIVER))
+    }
+
+    // Byte f of x, a driver or a container, is the number y.
+    fn names(&self, x: u16, f: u16, y: u16) -> bool
+        ensures { result ≡ eqb (field self.now.bytes.now x f) y }
+    {
+        u16::from(records::field(self.bytes, x, f)) == y
+    }
+
+    // The driver d stands in the record of x.
+    pub fn is_driven(&self, x: u16, d: u16) -> bool
+        ensures { result ≡ eqb (field self.now.bytes.now x 3) d }
+    {
+        self.names(x, DRIVER, d)
+    }
+
+    // The container k stands in the record of x.
+    pub fn lies_in(&self, x: u16, k: u16) -> bool
+        ensures { result ≡ eqb (field self.now.bytes.now x 4) k }
+    {
+        self.names(x, CONTAINER, k)
+    }
+
+    // The row of the level of x: the levels that it is at or below. Several comparisons of one level look it up once.
+    pub fn level_row(&self, x: u16) -> u16
+        ensures { result ≡ row_of self.now.order.now (field self.now.bytes.now x 1) }
+    {
+        let a = records::field(self.bytes, x, LEVEL);
+        self.order.row_of(u16::from(a))
+    }
+
+    // The row of the read level of x.
+    pub fn read_row(&self, x: u16) -> u16
+        ensures { result ≡ row_of self.now.order.now (field self.now.bytes.now x 2) }
+    {
+        let a = records::field(self.bytes, x, READ_LEVEL);
+        self.order.row_of(u16::from(a))
+    }
+
+    // The level of y stands in a row.
+    pub fn reaches(&self, row: u16, y: u16) -> bool
+        ensures { result ≡ bit row (field self.now.bytes.now y 1) }
+    {
+        let b = records::field(self.bytes, y, LEVEL);
+        levels::in_row(row, u16::from(b))
+    }
+
+    // The level of x is at or below the level of y.
+    pub fn is_below(&self, x: u16, y: u16) -> bool
+        ensures { result ≡ at_or_below self.now.order.now (field self.now.bytes.now x 1) (field self.now.bytes.now y 1) }
+    {
+        let row = self.level_row(x);
+        self.reaches(row, y)
+    }
+
+    // The level l, which is given and may be none of the order, is at or below the level of y.
+    pub fn level_below(&self, l: u16, y: u16) -> bool
+        ensures { result ≡ at_or_below self.now.order.now l (field self.now.bytes.now y 1) }
+    {
+        let b = records::field(self.bytes, y, LEVEL);
+        (*self.order).at_or_below(l, u16::from(b))
+    }
+
+    // There is a flow from x to y.
+    pub fn has_flow(&self, x: u16, y: u16) -> bool
+        ensures { result ≡ cell row_size self.now.words.now x y }
+    {
+        rows::has(self.words, x, y)
+    }
+
+    // An access of the task e to the object x in a table; a number past the table has none.
+    fn has_access(&self, table: u16, e: u16, x: u16) -> bool
+        requires { table ≤ 2 * numbers }
+        ensures { result ≡ (ltb e numbers && cell row_size self.now.words.now (table + e) x) }
+    {
+        e < NUMBERS && rows::has(self.words, table + e, x)
+    }
+
+    // The task e has read access to x.
+    pub fn reads(&self, e: u16, x: u16) -> bool
+        ensures { result ≡ (ltb e numbers && cell row_size self.now.words.now (numbers + e) x) }
+    {
+        self.has_access(READS, e, x)
+    }
+
+    // The task e has write access to x.
+    pub fn writes(&self, e: u16, x: u16) -> bool
+        ensures { result ≡ writes self.now.words.now e x }
+    {
+        self.has_access(WRITES, e, x)
+    }
+
+    // Both tasks have write access to k.
+    pub fn both_write(&self, e: u16, d: u16, k: u16) -> bool
+        ensures { result ≡ both_write self.now.words.now e d k }
+    {
+        self.writes(e, k) & self.writes(d, k)
+    }
 }

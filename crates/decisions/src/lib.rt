@@ -18,6 +18,7 @@ pub struct Decision {
     pub second: bool,
 }
 
+#[tactic(auto, unfolding(model::specs::Events::unless))]
 pub fn unless(ok: bool, row: u8, rest: u8) -> u8
     ensures { result ≡ model.unless ok row rest }
 {
@@ -25,6 +26,7 @@ pub fn unless(ok: bool, row: u8, rest: u8) -> u8
 }
 
 // A fact is named by the two levels that it compares, that of the first being at or below that of the second, or by the thing that is marked. `read` is the read level of the task that reads or calls.
+#[tactic(auto, unfolding(crate::specs::Decisions::read_decision))]
 pub fn read(
     task_driver: bool,
     read_driver: bool,
@@ -49,6 +51,7 @@ pub fn read(
     }
 }
 
+#[tactic(auto, unfolding(crate::specs::Decisions::write_decision))]
 pub fn write(object_task: bool, driver_marked: bool) -> Decision
     ensures { result ≡ write_decision object_task driver_marked }
 {
@@ -60,6 +63,7 @@ pub fn write(object_task: bool, driver_marked: bool) -> Decision
     }
 }
 
+#[tactic(auto, unfolding(crate::specs::Decisions::move_decision))]
 pub fn move_object(object_task: bool, object_to: bool, driver_marked: bool) -> Decision
     ensures { result ≡ move_decision object_task object_to driver_marked }
 {
@@ -71,6 +75,7 @@ pub fn move_object(object_task: bool, object_to: bool, driver_marked: bool) -> D
     }
 }
 
+#[tactic(auto, unfolding(crate::specs::Decisions::delete_decision))]
 pub fn delete(object_task: bool, driver_marked: bool) -> Decision
     ensures { result ≡ delete_decision object_task driver_marked }
 {
@@ -81,6 +86,7 @@ pub fn delete(object_task: bool, driver_marked: bool) -> Decision
     }
 }
 
+#[tactic(auto, unfolding(crate::specs::Decisions::call_decision))]
 pub fn call_task(
     caller_callee: bool,
     read_callee: bool,
@@ -97,6 +103,7 @@ pub fn call_task(
     }
 }
 
+#[tactic(auto, unfolding(crate::specs::Decisions::invoke_decision))]
 pub fn invoke(invokee_invoker: bool, invoker_marked: bool) -> Decision
     ensures { result ≡ invoke_decision invokee_invoker invoker_marked }
 {
@@ -108,6 +115,7 @@ pub fn invoke(invokee_invoker: bool, invoker_marked: bool) -> Decision
 }
 
 // Of pass and of post: the reader is the task whose read goes on.
+#[tactic(auto, unfolding(crate::specs::Decisions::relay_decision))]
 pub fn relay(
     reader_object: bool,
     read_object: bool,
@@ -126,6 +134,7 @@ pub fn relay(
 }
 
 // A refusing decision has no flow.
+#[tactic(auto, unfolding(crate::specs::Decisions::settled))]
 pub fn settled(judged: Decision) -> Decision
     ensures { result ≡ settled judged }
 {
@@ -138,6 +147,7 @@ pub fn settled(judged: Decision) -> Decision
 }
 
 // The test apart: an object that is not at or below its driver gives 11, unless the decision gives 10.
+#[tactic(auto, unfolding(crate::specs::Decisions::apart))]
 pub fn apart(below: bool, verdict: u8) -> u8
     ensures { result ≡ apart below verdict }
 {

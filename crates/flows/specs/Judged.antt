@@ -7,6 +7,8 @@ use Rattle.model.specs.State.{Memory, level_of, read_level_of, driver_of, marked
 use Rattle.model.specs.Effects.{Effect, flow_if}
 use Rattle.model.specs.Events.{verdict_of, call_task, invoke, pass, post, find}
 use Rattle.decisions.specs.declared.Decision.{Decision}
+use Rattle.table.specs.declared.Operation.{Operation}
+use Rattle.table.specs.Table.{decided}
 use Rattle.decisions.specs.Decisions.{settled, judged, call_decision, invoke_decision, relay_decision}
 
 -- ---- the flows of each event, in document 01's order: whether the first is recorded, and the second
@@ -47,6 +49,10 @@ module _ (o : Order) (m : Memory) where
   -- whether what the task z read of the object x goes on, by a pass or a post
   unfoldable pub relay_ruled : ℕ → ℕ → Decision
   relay_ruled z x = relay_decision (L z ⊑ L x) (R z ⊑ L x) (L z ⊑ L (driver_of m x)) (R z ⊑ L (driver_of m x)) (marked m z)
+
+  -- the same, as either engine decides it for a pass or for a post: both have the rule, and no sixth fact
+  unfoldable pub relay_decided : Operation → ℕ → ℕ → Decision
+  relay_decided op z x = decided op (L z ⊑ L x) (R z ⊑ L x) (L z ⊑ L (driver_of m x)) (R z ⊑ L (driver_of m x)) (marked m z) false
 
   abbrev pub pass_judged : ℕ → ℕ → ℕ → Decision
   pass_judged z x y = judged (pass o m z x y) (settled (relay_ruled z x))

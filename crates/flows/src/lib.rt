@@ -11,114 +11,104 @@ ghost use Rattle.model.specs.Events.{left, outcome};
 mod judge;
 
 use decisions::effects;
-use decisions::facts::in_use;
+use decisions::facts::View;
 use levels::Order;
 use model::{NUMBER, SLIPPED};
-use records::{is_object, is_task};
 use table::Engine;
 
-// Two tasks.
-fn are_tasks(bytes: &[u8], a: u16, b: u16) -> bool
-    ensures { result ≡ (is_task bytes.now a && is_task bytes.now b) }
-{
-    if !is_task(bytes, a) {
-        return false;
-    }
-    is_task(bytes, b)
-}
-
 // All but a find refuse wrong numbers first, and leave.
-pub fn call_task(
+pub fn call_task<E: Engine>(
     bytes: &[u8],
     words: &mut [u64],
-    order: Order,
-    engine: Engine,
+    order: &Order,
     caller: u16,
     callee: u16,
 ) -> u8
-    requires { Ready order bytes.now words.old }
-    ensures { left result 0 bytes.now words.new ≡ outcome (memory bytes.now words.old) (model.call_task order (memory bytes.now words.old) caller callee) }
+    requires { Ready order.now bytes.now words.old }
+    ensures { left result 0 bytes.now words.new ≡ outcome (memory bytes.now words.old) (model.call_task order.now (memory bytes.now words.old) caller callee) }
 {
-    if !are_tasks(bytes, caller, callee) {
+    let view = View { bytes, words, order };
+    if !view.are_tasks(caller, callee) {
         return NUMBER;
     }
-    let judged = judge::call_task(bytes, order, engine, caller, callee);
+    let judged = judge::call_task::<E>(&view, caller, callee);
     if judged.verdict <= SLIPPED {
         effects::record_both(words, judged, callee, caller, caller, callee);
     }
     judged.verdict
 }
 
-pub fn invoke(
+pub fn invoke<E: Engine>(
     bytes: &[u8],
     words: &mut [u64],
-    order: Order,
-    engine: Engine,
+    order: &Order,
     invoker: u16,
     invokee: u16,
 ) -> u8
-    requires { Ready order bytes.now words.old }
-    ensures { left result 0 bytes.now words.new ≡ outcome (memory bytes.now words.old) (model.invoke order (memory bytes.now words.old) invoker invokee) }
+    requires { Ready order.now bytes.now words.old }
+    ensures { left result 0 bytes.now words.new ≡ outcome (memory bytes.now words.old) (model.invoke order.now (memory bytes.now words.old) invoker invokee) }
 {
-    if !are_tasks(bytes, invoker, invokee) {
+    let view = View { bytes, words, order };
+    if !view.are_tasks(invoker, invokee) {
         return NUMBER;
     }
-    let judged = judge::invoke(bytes, order, engine, invoker, invokee);
+    let judged = judge::invoke::<E>(&view, invoker, invokee);
     if judged.verdict <= SLIPPED {
         effects::record_both(words, judged, invoker, invokee, invokee, invoker);
     }
     judged.verdict
 }
 
-pub fn pass(
+pub fn pass<E: Engine>(
     bytes: &[u8],
     words: &mut [u64],
-    order: Order,
-    engine: Engine,
+    order: &Order,
     z: u16,
     x: u16,
     y: u16,
 ) -> u8
-    requires { Ready order bytes.now words.old }
-    ensures { left result 0 bytes.now words.new ≡ outcome (memory bytes.now words.old) (model.pass order (memory bytes.now words.old) z x y) }
+    requires { Ready order.now bytes.now words.old }
+    ensures { left result 0 bytes.now words.new ≡ outcome (memory bytes.now words.old) (model.pass order.now (memory bytes.now words.old) z x y) }
 {
-    if !(is_task(bytes, z) & is_object(bytes, x) & in_use(bytes, y)) {
+    let view = View { bytes, words, order };
+    if !(view.is_task(z) & view.is_object(x) & view.in_use(y)) {
         return NUMBER;
     }
-    let judged = judge::pass(bytes, words, order, engine, z, x, y);
+    let judged = judge::pass::<E>(&view, z, x, y);
     if judged.verdict <= SLIPPED {
         effects::record_first(words, judged, x, y);
     }
     judged.verdict
 }
 
-pub fn post(
+pub fn post<E: Engine>(
     bytes: &[u8],
     words: &mut [u64],
-    order: Order,
-    engine: Engine,
+    order: &Order,
     x: u16,
     z: u16,
     y: u16,
 ) -> u8
-    requires { Ready order bytes.now words.old }
-    ensures { left result 0 bytes.now words.new ≡ outcome (memory bytes.now words.old) (model.post order (memory bytes.now words.old) x z y) }
+    requires { Ready order.now bytes.now words.old }
+    ensures { left result 0 bytes.now words.new ≡ outcome (memory bytes.now words.old) (model.post order.now (memory bytes.now words.old) x z y) }
 {
-    if !(is_task(bytes, x) & is_object(bytes, z) & is_task(bytes, y)) {
+    let view = View { bytes, words, order };
+    if !(view.is_task(x) & view.is_object(z) & view.is_task(y)) {
         return NUMBER;
     }
-    let judged = judge::post(bytes, words, order, engine, x, z, y);
+    let judged = judge::post::<E>(&view, x, z, y);
     if judged.verdict <= SLIPPED {
         effects::record_first(words, judged, x, y);
     }
     judged.verdict
 }
 
-pub fn find(bytes: &[u8], words: &mut [u64], order: Order, x: u16, z: u16, y: u16) -> u8
-    requires { Ready order bytes.now words.old }
-    ensures { left result 0 bytes.now words.new ≡ outcome (memory bytes.now words.old) (model.find order (memory bytes.now words.old) x z y) }
+pub fn find(bytes: &[u8], words: &mut [u64], order: &Order, x: u16, z: u16, y: u16) -> u8
+    requires { Ready order.now bytes.now words.old }
+    ensures { left result 0 bytes.now words.new ≡ outcome (memory bytes.now words.old) (model.find order.now (memory bytes.now words.old) x z y) }
 {
-    let judged = judge::find(bytes, words, order, x, z, y);
+    let view = View { bytes, words, order };
+    let judged = judge::find(&view, x, z, y);
     if judged.verdict <= SLIPPED {
         effects::record_first(words, judged, x, y);
     }

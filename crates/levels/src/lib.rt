@@ -17,44 +17,24 @@ pub struct Order {
 
 const MOST_LEVELS: u16 = 16;
 
-pub fn at_or_below(order: Order, a: u16, b: u16) -> bool
-    ensures { result ≡ at_or_below order a b }
-{
-    let n = order.count;
-    if (a < n) & (b < n) & (a < MOST_LEVELS) & (b < MOST_LEVELS) {
-        let i = a as usize;
-        (order.rows[i] >> b) % 2 == 1
-    } else {
-        false
+impl Order {
+    pub fn at_or_below(self, a: u16, b: u16) -> bool
+        ensures { result ≡ at_or_below self a b }
+    {
+        if (a < self.count) & (b < self.count) & (a < MOST_LEVELS) & (b < MOST_LEVELS) {
+            (self.rows[a as usize] >> b) % 2 == 1
+        } else {
+            false
+        }
     }
-}
 
-// The row of level a: a bit for each level that it is at or below. Several comparisons of one level look its row up once.
-pub fn row_of(order: Order, a: u16) -> u16
-    requires { a < most_levels }
-    ensures { result ≡ row_of order a }
-{
-    let i = a as usize;
-    order.rows[i]
-}
-
-// The rows of a task's level and of its read level.
-#[derive(Clone, Copy)]
-pub struct Rows {
-    pub level: u16,
-    pub read: u16,
-}
-
-// One function for both: a function that finds a row in an order which it is given copies the order first.
-pub fn rows_of(order: Order, level: u16, read: u16) -> Rows
-    requires { (level < most_levels) × (read < most_levels) }
-    ensures { (result.level ≡ row_of order level) × (result.read ≡ row_of order read) }
-{
-    let i = level as usize;
-    let j = read as usize;
-    Rows {
-        level: order.rows[i],
-        read: order.rows[j],
+    // The row of level a: a bit for each level that it is at or below. Several comparisons of one level look its row up once.
+    pub fn row_of(&self, a: u16) -> u16
+        requires { a < most_levels }
+        ensures { result ≡ row_of self.now a }
+    {
+        let i = a as usize;
+        self.rows[i]
     }
 }
 

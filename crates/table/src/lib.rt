@@ -21,15 +21,8 @@ pub enum Operation {
     Post,
 }
 
-// The engine that decides: the table, or the plain rules. A bool, since a constant bool that is handed down is known in every function below.
-pub type Engine = bool;
-
-pub const TABLE: Engine = true;
-
-pub const RULES: Engine = false;
-
 // In the place of a fact that an operation does not have.
-const UNUSED: bool = false;
+pub const UNUSED: bool = false;
 
 // How many operations there are, and settings of six facts, which stand in rows.
 pub const OPERATIONS: usize = 8;
@@ -45,7 +38,7 @@ const ROW: usize = 8;
 // An entry is the verdict, with 16 added where the first flow is recorded and 32 where the second is. docs/DECISION-TABLE.md has it in print.
 type Entries = [[[u8; ROW]; ROWS]; OPERATIONS];
 
-const ENTRIES: Entries = [
+static ENTRIES: Entries = [
     // Read: L(e) ≤ L(d), R(e) ≤ L(d), L(e) ≤ L(o), R(e) ≤ L(o), d marked, e marked. Flows: o to e, d to e.
     [
         [10, 11, 11, 11, 10, 16, 0, 16],
@@ -136,11 +129,11 @@ const ENTRIES: Entries = [
     ],
 ];
 
-// The table, with the one fact about it: it is filled. The constant is named here alone, so one proof goes through its 512 numbers.
-fn whole_table() -> Entries
-    ensures { filled result ≡ true }
+// The table, with the one fact about it: it is filled. It is named here alone, so one proof goes through its 512 numbers.
+fn whole_table() -> &'static Entries
+    ensures { filled result.now ≡ true }
 {
-    ENTRIES
+    &ENTRIES
 }
 
 // Where the part of an operation stands in the table.
@@ -159,21 +152,20 @@ fn place(operation: Operation) -> usize
     }
 }
 
-fn digit(fact: bool) -> usize
-    ensures { (result ≡ one fact) × (result < 2) }
-{
-    if fact { 1 } else { 0 }
-}
-
 // The number of a setting: six binary digits, so it is below 64.
 fn setting(f0: bool, f1: bool, f2: bool, f3: bool, f4: bool, f5: bool) -> usize
     ensures { (result ≡ setting «f0» «f1» «f2» «f3» «f4» «f5») × (result < settings) }
 {
-    digit(f0)
-        + 2 * (digit(f1) + 2 * (digit(f2) + 2 * (digit(f3) + 2 * (digit(f4) + 2 * digit(f5)))))
+    usize::from(f0)
+        + 2 * usize::from(f1)
+        + 4 * usize::from(f2)
+        + 8 * usize::from(f3)
+        + 16 * usize::from(f4)
+        + 32 * usize::from(f5)
 }
 
 // What an entry says.
+#[tactic(auto, unfolding(bits::specs::Bit::bit))]
 fn meaning(entry: u8) -> Decision
     ensures { result ≡ decision_of entry }
 {
@@ -184,9 +176,8 @@ fn meaning(entry: u8) -> Decision
     }
 }
 
-// The decision of an operation by the table. Its part is taken out first, where the operation is known: the compiler then stores no other.
+// The entry of an operation and a setting of its facts.
 fn look_up(
-    table: Entries,
     operation: Operation,
     f0: bool,
     f1: bool,
@@ -195,44 +186,11 @@ fn look_up(
     f4: bool,
     f5: bool,
 ) -> Decision
-    requires { filled table ≡ true }
     ensures { result ≡ decided operation «f0» «f1» «f2» «f3» «f4» «f5» }
 {
-    let part = table[place(operation)];
+    let table = whole_table();
     let s = setting(f0, f1, f2, f3, f4, f5);
-    meaning(part[s / ROW][s % ROW])
-}
-
-// As look_up, of at most three facts: they reach the first row alone, and no more of the part is stored.
-fn look_up_few(table: Entries, operation: Operation, f0: bool, f1: bool, f2: bool) -> Decision
-    requires { filled table ≡ true }
-    ensures { result ≡ decided operation «f0» «f1» «f2» false false false }
-{
-    let part = table[place(operation)];
-    let first = part[0];
-    meaning(first[digit(f0) + 2 * (digit(f1) + 2 * digit(f2))])
-}
-
-// As look_up, of two facts: chosen by conditions, so that nothing is stored.
-fn look_up_two(table: Entries, operation: Operation, f0: bool, f1: bool) -> Decision
-    requires { filled table ≡ true }
-    ensures { result ≡ decided operation «f0» «f1» false false false false }
-{
-    let part = table[place(operation)];
-    let first = part[0];
-    if f1 {
-        if f0 {
-            meaning(first[3])
-        } else {
-            meaning(first[2])
-        }
-    } else {
-        if f0 {
-            meaning(first[1])
-        } else {
-            meaning(first[0])
-        }
-    }
+    meaning(table[place(operation)][s / ROW][s % ROW])
 }
 
 // What the plain rule of an operation says of its facts.
@@ -254,8 +212,7 @@ fn ruled(
         Operation::Delete => decisions::delete(f0, f1),
         Operation::Call => decisions::call_task(f0, f1, f2, f3),
         Operation::Invoke => decisions::invoke(f0, f1),
-        Operation::Pass => decisions::relay(f0, f1, f2, f3, f4),
-        Operation::Post => decisions::relay(f0, f1, f2, f3, f4),
+        Operation::Pass | Operation::Post => decisions::relay(f0, f1, f2, f3, f4),
     }
 }
 
@@ -274,94 +231,148 @@ pub fn by_rules(
     settled(ruled(operation, f0, f1, f2, f3, f4, f5))
 }
 
-// ---- The decisions, by either engine. No engine stands in a contract: both decide alike.
-// Each hands over the whole table, and an operation that is known there: once all is inlined, the compiler stores the part of that operation alone.
+// What decides: the table, or the plain rules. No engine stands in a contract: both decide alike. An engine is a type and no value,
+// so that each is known in all that is made for it.
+pub trait Engine {
+    // The decision of an operation on its facts, fact 0 first.
+    fn decide(
+        operation: Operation,
+        f0: bool,
+        f1: bool,
+        f2: bool,
+        f3: bool,
+        f4: bool,
+        f5: bool,
+    ) -> Decision
+        ensures { result ≡ decided operation «f0» «f1» «f2» «f3» «f4» «f5» };
+}
 
-pub fn read(engine: Engine, f0: bool, f1: bool, f2: bool, f3: bool, f4: bool, f5: bool) -> Decision
-    ensures { result ≡ settled (read_decision «f0» «f1» «f2» «f3» «f4» «f5») }
-{
-    if engine == TABLE {
-        look_up(whole_table(), Operation::Read, f0, f1, f2, f3, f4, f5)
-    } else {
-        by_rules(Operation::Read, f0, f1, f2, f3, f4, f5)
+pub struct Table;
+
+impl Engine for Table {
+    fn decide(
+        operation: Operation,
+        f0: bool,
+        f1: bool,
+        f2: bool,
+        f3: bool,
+        f4: bool,
+        f5: bool,
+    ) -> Decision {
+        look_up(operation, f0, f1, f2, f3, f4, f5)
     }
 }
 
-pub fn write(engine: Engine, f0: bool, f1: bool) -> Decision
-    ensures { result ≡ settled (write_decision «f0» «f1») }
-{
-    if engine == TABLE {
-        look_up_two(whole_table(), Operation::Write, f0, f1)
-    } else {
-        by_rules(Operation::Write, f0, f1, UNUSED, UNUSED, UNUSED, UNUSED)
+pub struct Rules;
+
+impl Engine for Rules {
+    fn decide(
+        operation: Operation,
+        f0: bool,
+        f1: bool,
+        f2: bool,
+        f3: bool,
+        f4: bool,
+        f5: bool,
+    ) -> Decision {
+        by_rules(operation, f0, f1, f2, f3, f4, f5)
     }
 }
 
-pub fn move_object(engine: Engine, f0: bool, f1: bool, f2: bool) -> Decision
-    ensures { result ≡ settled (move_decision «f0» «f1» «f2») }
+// ---- The decisions, by whichever engine.
+
+pub fn read<E: Engine>(
+    task_driver: bool,
+    read_driver: bool,
+    task_object: bool,
+    read_object: bool,
+    driver_marked: bool,
+    task_marked: bool,
+) -> Decision
+    ensures { result ≡ settled (read_decision task_driver read_driver task_object read_object driver_marked task_marked) }
 {
-    if engine == TABLE {
-        look_up_few(whole_table(), Operation::Move, f0, f1, f2)
-    } else {
-        by_rules(Operation::Move, f0, f1, f2, UNUSED, UNUSED, UNUSED)
-    }
+    E::decide(
+        Operation::Read,
+        task_driver,
+        read_driver,
+        task_object,
+        read_object,
+        driver_marked,
+        task_marked,
+    )
 }
 
-pub fn delete(engine: Engine, f0: bool, f1: bool) -> Decision
-    ensures { result ≡ settled (delete_decision «f0» «f1») }
+pub fn write<E: Engine>(object_task: bool, driver_marked: bool) -> Decision
+    ensures { result ≡ settled (write_decision object_task driver_marked) }
 {
-    if engine == TABLE {
-        look_up_two(whole_table(), Operation::Delete, f0, f1)
-    } else {
-        by_rules(Operation::Delete, f0, f1, UNUSED, UNUSED, UNUSED, UNUSED)
-    }
+    E::decide(
+        Operation::Write,
+        object_task,
+        driver_marked,
+        UNUSED,
+        UNUSED,
+        UNUSED,
+        UNUSED,
+    )
 }
 
-pub fn call_task(engine: Engine, f0: bool, f1: bool, f2: bool, f3: bool) -> Decision
-    ensures { result ≡ settled (call_decision «f0» «f1» «f2» «f3») }
+pub fn move_object<E: Engine>(object_task: bool, object_to: bool, driver_marked: bool) -> Decision
+    ensures { result ≡ settled (move_decision object_task object_to driver_marked) }
 {
-    if engine == TABLE {
-        look_up(
-            whole_table(),
-            Operation::Call,
-            f0,
-            f1,
-            f2,
-            f3,
-            UNUSED,
-            UNUSED,
-        )
-    } else {
-        by_rules(Operation::Call, f0, f1, f2, f3, UNUSED, UNUSED)
-    }
+    E::decide(
+        Operation::Move,
+        object_task,
+        object_to,
+        driver_marked,
+        UNUSED,
+        UNUSED,
+        UNUSED,
+    )
 }
 
-pub fn invoke(engine: Engine, f0: bool, f1: bool) -> Decision
-    ensures { result ≡ settled (invoke_decision «f0» «f1») }
+pub fn delete<E: Engine>(object_task: bool, driver_marked: bool) -> Decision
+    ensures { result ≡ settled (delete_decision object_task driver_marked) }
 {
-    if engine == TABLE {
-        look_up_two(whole_table(), Operation::Invoke, f0, f1)
-    } else {
-        by_rules(Operation::Invoke, f0, f1, UNUSED, UNUSED, UNUSED, UNUSED)
-    }
+    E::decide(
+        Operation::Delete,
+        object_task,
+        driver_marked,
+        UNUSED,
+        UNUSED,
+        UNUSED,
+        UNUSED,
+    )
 }
 
-pub fn pass(engine: Engine, f0: bool, f1: bool, f2: bool, f3: bool, f4: bool) -> Decision
-    ensures { result ≡ settled (relay_decision «f0» «f1» «f2» «f3» «f4») }
+pub fn call_task<E: Engine>(
+    caller_callee: bool,
+    read_callee: bool,
+    caller_marked: bool,
+    callee_marked: bool,
+) -> Decision
+    ensures { result ≡ settled (call_decision caller_callee read_callee caller_marked callee_marked) }
 {
-    if engine == TABLE {
-        look_up(whole_table(), Operation::Pass, f0, f1, f2, f3, f4, UNUSED)
-    } else {
-        by_rules(Operation::Pass, f0, f1, f2, f3, f4, UNUSED)
-    }
+    E::decide(
+        Operation::Call,
+        caller_callee,
+        read_callee,
+        caller_marked,
+        callee_marked,
+        UNUSED,
+        UNUSED,
+    )
 }
 
-pub fn post(engine: Engine, f0: bool, f1: bool, f2: bool, f3: bool, f4: bool) -> Decision
-    ensures { result ≡ settled (relay_decision «f0» «f1» «f2» «f3» «f4») }
+pub fn invoke<E: Engine>(invokee_invoker: bool, invoker_marked: bool) -> Decision
+    ensures { result ≡ settled (invoke_decision invokee_invoker invoker_marked) }
 {
-    if engine == TABLE {
-        look_up(whole_table(), Operation::Post, f0, f1, f2, f3, f4, UNUSED)
-    } else {
-        by_rules(Operation::Post, f0, f1, f2, f3, f4, UNUSED)
-    }
+    E::decide(
+        Operation::Invoke,
+        invokee_invoker,
+        invoker_marked,
+        UNUSED,
+        UNUSED,
+        UNUSED,
+        UNUSED,
+    )
 }

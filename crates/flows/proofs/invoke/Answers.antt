@@ -6,10 +6,10 @@ use Rattle.flows.proofs.invoke.Goals as goal
 
 pub returns-then-not-are_tasks : goal.returns-then-not-are_tasks
 unfolding task
-returns-then-not-are_tasks c = unnamed _ _ _ _ (invoke_verdict _ _ _ _) (sym c.are_tasks.ensures ∙ c.if-not-are_tasks.true)
+returns-then-not-are_tasks g c = unnamed _ _ _ _ (invoke_verdict _ _ _ _) (sym c.are_tasks.ensures ∙ c.if-not-are_tasks.true)
 
 pub returns-then-judged-le-SLIPPED : goal.returns-then-judged-le-SLIPPED
-returns-then-judged-le-SLIPPED c = done (invoke_told _ _ _ _) (c.invoke-judged.ensures _) c.if-judged-le-SLIPPED.true (c.record_both.ensures _)
+returns-then-judged-le-SLIPPED g c = done (invoke_told _ _ _ _) c.invoke-judged.ensures c.if-judged-le-SLIPPED.true (c.record_both.ensures _)
 
 pub returns-else-judged-le-SLIPPED : goal.returns-else-judged-le-SLIPPED
-returns-else-judged-le-SLIPPED c = refused (invoke_told _ _ _ _) (c.invoke-judged.ensures _) c.if-judged-le-SLIPPED.false
+returns-else-judged-le-SLIPPED g c = refused (invoke_told _ _ _ _) c.invoke-judged.ensures c.if-judged-le-SLIPPED.false

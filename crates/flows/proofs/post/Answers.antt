@@ -5,12 +5,12 @@ use Rattle.flows.proofs.post.Goals as goal
 
 pub returns-then-not-is_task-is_object : goal.returns-then-not-is_task-is_object
 unfolding task object
-returns-then-not-is_task-is_object c =
+returns-then-not-is_task-is_object g c =
     unnamed _ _ _ _ (post_verdict _ _ c.requires.0 _ _ _)
     (simp (c.is_task-2.ensures, c.is_object.ensures, c.is_task.ensures) at c.if-not-is_task-is_object.true)
 
 pub returns-then-judged-le-SLIPPED : goal.returns-then-judged-le-SLIPPED
-returns-then-judged-le-SLIPPED c = done (post_told _ _ _ _ _) c.post-judged.ensures c.if-judged-le-SLIPPED.true (c.record_first.ensures _)
+returns-then-judged-le-SLIPPED g c = done (post_told _ _ _ _ _) c.post-judged.ensures c.if-judged-le-SLIPPED.true (c.record_first.ensures _)
 
 pub returns-else-judged-le-SLIPPED : goal.returns-else-judged-le-SLIPPED
-returns-else-judged-le-SLIPPED c = refused (post_told _ _ _ _ _) c.post-judged.ensures c.if-judged-le-SLIPPED.false
+returns-else-judged-le-SLIPPED g c = refused (post_told _ _ _ _ _) c.post-judged.ensures c.if-judged-le-SLIPPED.false

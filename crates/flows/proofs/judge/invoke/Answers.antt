@@ -8,5 +8,4 @@ use Rattle.flows.proofs.judge.invoke.Goals as goal
 
 pub returns : goal.returns
 unfolding task marked invoke_ruled unless
-returns c =
-    λ ws. judged_is _ _ (simp (c.invoke.ensures, c.marked.ensures, c.below-below.ensures) refl) (λ v. rw (invoke_verdict, c.requires.1) v)
+returns g c = judged_is _ _ (simp (c.invoke.ensures, c.is_marked.ensures, c.is_below.ensures) refl) (λ v. rw (invoke_verdict, c.requires) v)

@@ -1,5 +1,5 @@
 use Rattle.decisions.specs.Facts.{writes}
-use Rattle.decisions.proofs.facts.writes.Goals as goal
+use Rattle.decisions.proofs.facts.View.writes.Goals as goal
 
 pub returns : goal.returns
 unfolding writes

@@ -1,6 +1,6 @@
 use Rattle.std.proofs.Common.{refl}
 use Rattle.decisions.specs.Facts.{both_write}
-use Rattle.decisions.proofs.facts.both_write.Goals as goal
+use Rattle.decisions.proofs.facts.View.both_write.Goals as goal
 
 pub returns : goal.returns
 unfolding both_write
