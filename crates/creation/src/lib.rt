@@ -10,6 +10,7 @@ ghost use Rattle.model.specs.Events.{left, outcome};
 mod effects;
 mod judge;
 
+use decisions::facts::View;
 use levels::Order;
 use model::SLIPPED;
 use records::ROOT_SIGN;
@@ -17,17 +18,22 @@ use records::ROOT_SIGN;
 pub fn execute(
     bytes: &mut [u8],
     words: &mut [u64],
-    order: Order,
+    order: &Order,
     creator: u16,
     image: u16,
     new: u16,
     level: u16,
     read_level: u16,
 ) -> u8
-    requires { Ready order bytes.old words.old }
-    ensures { left result 0 bytes.new words.new ≡ outcome (memory bytes.old words.old) (model.execute order (memory bytes.old words.old) creator image new level read_level) }
+    requires { Ready order.now bytes.old words.old }
+    ensures { left result 0 bytes.new words.new ≡ outcome (memory bytes.old words.old) (model.execute order.now (memory bytes.old words.old) creator image new level read_level) }
 {
-    let judged = judge::execute(bytes, order, creator, image, new, level, read_level);
+    let view = View {
+        bytes,
+        words,
+        order,
+    };
+    let judged = judge::execute(&view, creator, image, new, level, read_level);
     if judged.verdict <= SLIPPED {
         effects::execute(bytes, words, judged, image, new, level, read_level);
     }
@@ -37,17 +43,22 @@ pub fn execute(
 pub fn create(
     bytes: &mut [u8],
     words: &mut [u64],
-    order: Order,
+    order: &Order,
     creator: u16,
     driver: u16,
     new: u16,
     container: u16,
     level: u16,
 ) -> u8
-    requires { Ready order bytes.old words.old }
-    ensures { left result 0 bytes.new words.new ≡ outcome (memory bytes.old words.old) (model.create order (memory bytes.old words.old) creator driver new container level) }
+    requires { Ready order.now bytes.old words.old }
+    ensures { left result 0 bytes.new words.new ≡ outcome (memory bytes.old words.old) (model.create order.now (memory bytes.old words.old) creator driver new container level) }
 {
-    let judged = judge::create(bytes, words, order, creator, driver, new, container, level);
+    let view = View {
+        bytes,
+        words,
+        order,
+    };
+    let judged = judge::create(&view, creator, driver, new, container, level);
     if judged.verdict <= SLIPPED {
         effects::create(bytes, words, judged, creator, driver, new, container, level);
     }
@@ -57,16 +68,21 @@ pub fn create(
 pub fn create_root(
     bytes: &mut [u8],
     words: &mut [u64],
-    order: Order,
+    order: &Order,
     creator: u16,
     driver: u16,
     new: u16,
     level: u16,
 ) -> u8
-    requires { Ready order bytes.old words.old }
-    ensures { left result 0 bytes.new words.new ≡ outcome (memory bytes.old words.old) (model.create_root order (memory bytes.old words.old) creator driver new level) }
+    requires { Ready order.now bytes.old words.old }
+    ensures { left result 0 bytes.new words.new ≡ outcome (memory bytes.old words.old) (model.create_root order.now (memory bytes.old words.old) creator driver new level) }
 {
-    let judged = judge::create_root(bytes, order, creator, driver, new, level);
+    let view = View {
+        bytes,
+        words,
+        order,
+    };
+    let judged = judge::create_root(&view, creator, driver, new, level);
     if judged.verdict <= SLIPPED {
         effects::create(
             bytes,

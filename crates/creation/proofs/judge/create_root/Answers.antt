@@ -4,4 +4,4 @@ use Rattle.creation.proofs.judge.create_root.Goals as goal
 
 pub returns : goal.returns
 unfolding marked
-returns c = λ ws. rw root_verdict (cc)
+returns c = rw root_verdict (cc)

@@ -21,7 +21,7 @@ execute_is o m c i n l r v named row flow = rw (v, named, row, flow, execute_ver
 pub returns : goal.returns
 unfolding task object marked
 returns c =
-    λ ws. execute_is _ _ _ _ _ _ _ c.given.ensures
+    execute_is _ _ _ _ _ _ _ c.given.ensures
     (simp (c.is_object.ensures, c.is_task.ensures) refl)
     (simp (c.unless-row.ensures, c.unless.ensures, c.at_or_below.ensures, c.level_below.ensures) refl)
-    c.marked.ensures
+    c.is_marked.ensures
