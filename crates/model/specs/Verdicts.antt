@@ -1,6 +1,8 @@
 -- The verdicts by the documents' words, in the order of their numbers. All from 2 on are refusals.
 -- Assumes nothing.
 use Rattle.std.specs.Prelude.{Bool, ℕ, leb}
+use Rattle.model.specs.declared.Verdict.{Verdict}
+use Rattle.model.specs.declared.Verdict.TheVariants as verdicts
 
 abbrev pub granted : ℕ
 granted = 0
@@ -59,3 +61,23 @@ row_feeding = 16
 -- granted or slipped: the effects are recorded
 abbrev pub is_done : ℕ → Bool
 is_done v = leb v slipped
+
+-- the number of each verdict of the code
+abbrev pub number_of : Verdict → ℕ
+number_of verdicts.Granted = granted
+number_of verdicts.Slipped = slipped
+number_of verdicts.State = row_state
+number_of verdicts.Order = row_order
+number_of verdicts.Number = row_number
+number_of verdicts.Taken = row_taken
+number_of verdicts.Driver = row_driver
+number_of verdicts.Place = row_place
+number_of verdicts.Held = row_held
+number_of verdicts.Scale = row_scale
+number_of verdicts.Path = row_path
+number_of verdicts.Rule = row_rule
+number_of verdicts.Filled = row_filled
+number_of verdicts.Still = row_still
+number_of verdicts.Form = row_form
+number_of verdicts.Deep = row_deep
+number_of verdicts.Feeding = row_feeding

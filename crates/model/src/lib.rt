@@ -1,6 +1,9 @@
 // The types of the monitor's face: calls, answers, tally records and the report.
 #![tactic(auto)]
 
+ghost use Rattle.std.specs.Prelude.{◌≡◌};
+ghost use Rattle.model.specs.Verdicts.{is_done, number_of};
+
 // A call with its numbers, told by document 01's letters. Levels are as wide as thing numbers, so that what a caller names reaches
 // the rules uncut.
 #[derive(Clone, Copy)]
@@ -72,40 +75,44 @@ pub struct Checked {
     pub verdict: u8,
 }
 
-// The verdicts, in the order of their numbers.
-pub const GRANTED: u8 = 0;
+// The verdicts, in the order of their numbers. The topmost of those that apply is given.
+#[derive(Clone, Copy, Debug, PartialEq, Eq)]
+pub enum Verdict {
+    Granted,
+    // The driver is marked, and only what an honest driver enforces does not hold.
+    Slipped,
+    State,
+    Order,
+    Number,
+    Taken,
+    Driver,
+    Place,
+    Held,
+    Scale,
+    Path,
+    Rule,
+    Filled,
+    Still,
+    Form,
+    Deep,
+    Feeding,
+}
 
-pub const SLIPPED: u8 = 1;
+impl Verdict {
+    // As C reads it.
+    pub fn number(self) -> u8
+        ensures { result ≡ number_of self }
+    {
+        self as u8
+    }
 
-pub const STATE: u8 = 2;
-
-pub const ORDER: u8 = 3;
-
-pub const NUMBER: u8 = 4;
-
-pub const TAKEN: u8 = 5;
-
-pub const DRIVER: u8 = 6;
-
-pub const PLACE: u8 = 7;
-
-pub const HELD: u8 = 8;
-
-pub const SCALE: u8 = 9;
-
-pub const PATH: u8 = 10;
-
-pub const RULE: u8 = 11;
-
-pub const FILLED: u8 = 12;
-
-pub const STILL: u8 = 13;
-
-pub const FORM: u8 = 14;
-
-pub const DEEP: u8 = 15;
-
-pub const FEEDING: u8 = 16;
+    // Granted or slipped: the effects are recorded.
+    pub fn is_done(self) -> bool
+        ensures { result ≡ is_done (number_of self) }
+    {
+        matches!(self, Verdict::Granted | Verdict::Slipped)
+    }
+}
 
 // The told word.
 pub const NO_WORD: u8 = 0;
