@@ -14,7 +14,7 @@ use Rattle.model.specs.Verdicts.{granted, slipped, row_scale, row_rule}
 use Rattle.model.specs.State.{Memory, in_use, task, object, level_of, marked, has_write}
 use Rattle.model.specs.Effects.{flow_if, make_task, make_object, effect, effects}
 use Rattle.model.specs.Events.{unless, first_failing, verdict_of, execute, create, create_root}
-use Rattle.decisions.specs.declared.Decision.{Decision}
+use Rattle.decisions.specs.Decisions.{Decision}
 use Rattle.decisions.specs.Facts.{writes, both_write}
 use Rattle.decisions.specs.DecisionLaws.{Told, told_tests, under, task_small, object_small}
 use Rattle.creation.specs.Judged.{are_new, given, scaled, create_rows, execute_judged, create_judged, root_judged}

@@ -8,7 +8,7 @@ use Rattle.levels.specs.Order.{in_order}
 use Rattle.model.specs.Verdicts.{granted, row_number, row_taken, row_held, row_scale, row_rule}
 use Rattle.model.specs.State.{Memory, marked}
 use Rattle.model.specs.Events.{unless, verdict_of, execute, create, create_root}
-use Rattle.decisions.specs.declared.Decision.{Decision}
+use Rattle.decisions.specs.Decisions.{Decision}
 use Rattle.decisions.specs.Facts.{both_write}
 
 -- two tasks and a number that may be given out

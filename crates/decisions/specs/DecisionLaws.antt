@@ -12,7 +12,7 @@ use Rattle.model.proofs.StateLaws.{task_used, object_used, used_below}
 use Rattle.model.specs.Effects.{Effect, effect, effects}
 use Rattle.model.specs.Events.{Event, left, unless, verdict_of, outcome}
 use Rattle.model.proofs.TableLaws.{refusals, Holds, done_tests}
-use Rattle.decisions.specs.declared.Decision.{Decision}
+use Rattle.decisions.specs.Decisions.{Decision}
 use Rattle.decisions.specs.Decisions.{judged, settled, apart}
 
 -- a settled decision with the verdict of a whole table

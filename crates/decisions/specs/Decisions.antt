@@ -1,9 +1,19 @@
 -- The decisions: what the level tests and the marks of an event settle, as functions of yes-or-no facts.
 -- Assumes nothing.
 use Rattle.std.specs.Prelude.{Bool, true, false, not, ◌&&◌, ◌||◌, ℕ, eqb}
-use Rattle.model.specs.Verdicts.{granted, slipped, row_path, row_rule, is_done}
+use Rattle.model.specs.Verdicts.{granted, slipped, row_path, row_rule, is_done, number_of}
 use Rattle.model.specs.Events.{Event, unless, verdict_of}
-use Rattle.decisions.specs.declared.Decision.{Decision}
+use Rattle.decisions.specs.declared.Decision as declared
+
+-- what is decided: the verdict, and which of the event's flows, at most two, are recorded
+pub record Decision : Type 0 where
+  pub verdict : ℕ
+  pub first : Bool
+  pub second : Bool
+
+-- a decision of the code, with the number of its verdict
+abbrev pub numbered : declared.Decision → Decision
+numbered d = record { verdict = number_of d.verdict; first = d.first; second = d.second }
 
 -- ---- decisions. A fact is named by the two levels that it compares, that of the first being at or below that of the second, or by the thing that is marked; `read` is the read level of the task that reads or calls. A flow is the first or the second of its event, in document 01's order
 

@@ -2,25 +2,26 @@
 #![tactic(auto)]
 
 ghost use Rattle.std.specs.Prelude.{◌≡◌};
+ghost use Rattle.model.specs.Verdicts.{number_of};
 ghost use Rattle.model.specs.Events as model;
-ghost use Rattle.decisions.specs.Decisions.{read_decision, write_decision, move_decision, delete_decision, call_decision, invoke_decision, relay_decision, settled, apart};
+ghost use Rattle.decisions.specs.Decisions.{numbered, read_decision, write_decision, move_decision, delete_decision, call_decision, invoke_decision, relay_decision, settled, apart};
 
 pub mod effects;
 pub mod facts;
 
-use model::{GRANTED, PATH, RULE, SLIPPED};
+use model::Verdict;
 
 // The verdict that the level tests give, and which of the event's flows, at most two, are recorded.
 #[derive(Clone, Copy)]
 pub struct Decision {
-    pub verdict: u8,
+    pub verdict: Verdict,
     pub first: bool,
     pub second: bool,
 }
 
 #[tactic(auto, unfolding(model::specs::Events::unless))]
-pub fn unless(ok: bool, row: u8, rest: u8) -> u8
-    ensures { result ≡ model.unless ok row rest }
+pub fn unless(ok: bool, row: Verdict, rest: Verdict) -> Verdict
+    ensures { number_of result ≡ model.unless ok (number_of row) (number_of rest) }
 {
     if ok { rest } else { row }
 }
@@ -35,17 +36,17 @@ pub fn read(
     driver_marked: bool,
     task_marked: bool,
 ) -> Decision
-    ensures { result ≡ read_decision task_driver read_driver task_object read_object driver_marked task_marked }
+    ensures { numbered result ≡ read_decision task_driver read_driver task_object read_object driver_marked task_marked }
 {
     let honest = task_object | read_object;
     let from_driver = driver_marked & (task_marked | task_driver);
     let rule = unless(
         honest | driver_marked,
-        RULE,
-        unless(honest, SLIPPED, GRANTED),
+        Verdict::Rule,
+        unless(honest, Verdict::Slipped, Verdict::Granted),
     );
     Decision {
-        verdict: unless(task_driver | read_driver, PATH, rule),
+        verdict: unless(task_driver | read_driver, Verdict::Path, rule),
         first: (!driver_marked & (task_marked | (task_object & task_driver))) | from_driver,
         second: from_driver,
     }
@@ -53,11 +54,11 @@ pub fn read(
 
 #[tactic(auto, unfolding(crate::specs::Decisions::write_decision))]
 pub fn write(object_task: bool, driver_marked: bool) -> Decision
-    ensures { result ≡ write_decision object_task driver_marked }
+    ensures { numbered result ≡ write_decision object_task driver_marked }
 {
-    let honest = unless(object_task, SLIPPED, GRANTED);
+    let honest = unless(object_task, Verdict::Slipped, Verdict::Granted);
     Decision {
-        verdict: unless(object_task | driver_marked, RULE, honest),
+        verdict: unless(object_task | driver_marked, Verdict::Rule, honest),
         first: true,
         second: driver_marked,
     }
@@ -65,11 +66,15 @@ pub fn write(object_task: bool, driver_marked: bool) -> Decision
 
 #[tactic(auto, unfolding(crate::specs::Decisions::move_decision))]
 pub fn move_object(object_task: bool, object_to: bool, driver_marked: bool) -> Decision
-    ensures { result ≡ move_decision object_task object_to driver_marked }
+    ensures { numbered result ≡ move_decision object_task object_to driver_marked }
 {
-    let rest = unless(object_to, RULE, unless(object_task, SLIPPED, GRANTED));
+    let rest = unless(
+        object_to,
+        Verdict::Rule,
+        unless(object_task, Verdict::Slipped, Verdict::Granted),
+    );
     Decision {
-        verdict: unless(object_task | driver_marked, RULE, rest),
+        verdict: unless(object_task | driver_marked, Verdict::Rule, rest),
         first: driver_marked,
         second: driver_marked,
     }
@@ -77,10 +82,10 @@ pub fn move_object(object_task: bool, object_to: bool, driver_marked: bool) -> D
 
 #[tactic(auto, unfolding(crate::specs::Decisions::delete_decision))]
 pub fn delete(object_task: bool, driver_marked: bool) -> Decision
-    ensures { result ≡ delete_decision object_task driver_marked }
+    ensures { numbered result ≡ delete_decision object_task driver_marked }
 {
     Decision {
-        verdict: unless(object_task, RULE, GRANTED),
+        verdict: unless(object_task, Verdict::Rule, Verdict::Granted),
         first: driver_marked,
         second: false,
     }
@@ -93,11 +98,11 @@ pub fn call_task(
     caller_marked: bool,
     callee_marked: bool,
 ) -> Decision
-    ensures { result ≡ call_decision caller_callee read_callee caller_marked callee_marked }
+    ensures { numbered result ≡ call_decision caller_callee read_callee caller_marked callee_marked }
 {
     let flows = caller_marked | caller_callee;
     Decision {
-        verdict: unless(caller_callee | read_callee, PATH, GRANTED),
+        verdict: unless(caller_callee | read_callee, Verdict::Path, Verdict::Granted),
         first: flows,
         second: flows & callee_marked,
     }
@@ -105,10 +110,10 @@ pub fn call_task(
 
 #[tactic(auto, unfolding(crate::specs::Decisions::invoke_decision))]
 pub fn invoke(invokee_invoker: bool, invoker_marked: bool) -> Decision
-    ensures { result ≡ invoke_decision invokee_invoker invoker_marked }
+    ensures { numbered result ≡ invoke_decision invokee_invoker invoker_marked }
 {
     Decision {
-        verdict: unless(invokee_invoker, RULE, GRANTED),
+        verdict: unless(invokee_invoker, Verdict::Rule, Verdict::Granted),
         first: true,
         second: invoker_marked,
     }
@@ -123,11 +128,11 @@ pub fn relay(
     read_driver: bool,
     reader_marked: bool,
 ) -> Decision
-    ensures { result ≡ relay_decision reader_object read_object reader_driver read_driver reader_marked }
+    ensures { numbered result ≡ relay_decision reader_object read_object reader_driver read_driver reader_marked }
 {
     let risky = (!reader_object & read_object) | (!reader_driver & read_driver);
     Decision {
-        verdict: unless(!risky | reader_marked, RULE, GRANTED),
+        verdict: unless(!risky | reader_marked, Verdict::Rule, Verdict::Granted),
         first: true,
         second: false,
     }
@@ -136,20 +141,20 @@ pub fn relay(
 // A refusing decision has no flow.
 #[tactic(auto, unfolding(crate::specs::Decisions::settled))]
 pub fn settled(judged: Decision) -> Decision
-    ensures { result ≡ settled judged }
+    ensures { numbered result ≡ settled (numbered judged) }
 {
-    let done = judged.verdict <= SLIPPED;
+    let done = judged.verdict.is_done();
     Decision {
-        verdict: judged.verdict,
         first: done & judged.first,
         second: done & judged.second,
+        ..judged
     }
 }
 
 // The test apart: an object that is not at or below its driver gives 11, unless the decision gives 10.
 #[tactic(auto, unfolding(crate::specs::Decisions::apart))]
-pub fn apart(below: bool, verdict: u8) -> u8
-    ensures { result ≡ apart below verdict }
+pub fn apart(below: bool, verdict: Verdict) -> Verdict
+    ensures { number_of result ≡ apart below (number_of verdict) }
 {
-    unless(below | (verdict == PATH), RULE, verdict)
+    unless(below | (verdict == Verdict::Path), Verdict::Rule, verdict)
 }

@@ -21,7 +21,7 @@ use Rattle.model.specs.Effects.{Effect, flow_if, read_access, bridge, clear, eff
 use Rattle.model.specs.Events.{unless, first_failing, verdict_of, feeds_unmarked, read, write, move, delete}
 use Rattle.places.specs.Places.{bytes_inside}
 use Rattle.places.specs.PlaceLaws.{inside_is}
-use Rattle.decisions.specs.declared.Decision.{Decision}
+use Rattle.decisions.specs.Decisions.{Decision}
 use Rattle.decisions.specs.Decisions.{apart, read_decision, write_decision, move_decision, delete_decision}
 use Rattle.decisions.specs.Facts.{writes, both_write}
 use Rattle.decisions.specs.DecisionLaws.{Told, told_by, told_tests, under, ends_done, apart_joins, task_small, object_small}

@@ -11,7 +11,7 @@ use Rattle.model.specs.State.{Memory, memory, level_of, read_level_of, marked}
 use Rattle.model.specs.Effects.{Effect, flow_if, read_access, write_access, move_to, bridge, clear}
 use Rattle.model.specs.Events.{unless, feeds_unmarked, read, write, move, delete}
 use Rattle.places.specs.Places.{bytes_inside}
-use Rattle.decisions.specs.declared.Decision.{Decision}
+use Rattle.decisions.specs.Decisions.{Decision}
 use Rattle.decisions.specs.Facts.{writes, both_write}
 use Rattle.decisions.specs.Decisions.{settled, judged, read_decision, write_decision, move_decision, delete_decision}
 

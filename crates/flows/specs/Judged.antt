@@ -6,7 +6,7 @@ use Rattle.levels.specs.Order.{at_or_below}
 use Rattle.model.specs.State.{Memory, level_of, read_level_of, driver_of, marked}
 use Rattle.model.specs.Effects.{Effect, flow_if}
 use Rattle.model.specs.Events.{verdict_of, call_task, invoke, pass, post, find}
-use Rattle.decisions.specs.declared.Decision.{Decision}
+use Rattle.decisions.specs.Decisions.{Decision}
 use Rattle.table.specs.declared.Operation.{Operation}
 use Rattle.table.specs.Table.{decided}
 use Rattle.decisions.specs.Decisions.{settled, judged, call_decision, invoke_decision, relay_decision}

@@ -7,7 +7,7 @@ use Rattle.bits.specs.AllLaws.{and_l, and_r, all_at}
 use Rattle.bits.specs.Bit.{bit}
 use Rattle.bits.specs.BitLaws.{bit_low, bit_half}
 use Rattle.model.specs.Events.{unless}
-use Rattle.decisions.specs.declared.Decision.{Decision}
+use Rattle.decisions.specs.Decisions.{Decision}
 use Rattle.decisions.specs.Decisions.{settled, read_decision, write_decision, move_decision, delete_decision, call_decision, invoke_decision, relay_decision}
 use Rattle.table.specs.Table.{settings, setting, ruled, decided, entry_at, entry_of, decision_of, facts_of, Entries, operations, operation_at, entry_in, right, filled}
 use Rattle.table.specs.declared.Operation.{Operation}
