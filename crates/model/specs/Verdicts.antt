@@ -1,7 +1,8 @@
 -- The verdicts by the documents' words, in the order of their numbers. All from 2 on are refusals.
 -- Assumes nothing.
-use Rattle.std.specs.Prelude.{Bool, ℕ, leb}
+use Rattle.std.specs.Prelude.{◌≡◌, Bool, ℕ, ◌<◌, leb, Result, MatchResult}
 use Rattle.model.specs.declared.Verdict.{Verdict}
+use Rattle.model.specs.declared.NoVerdict.{NoVerdict}
 use Rattle.model.specs.declared.Verdict.TheVariants as verdicts
 
 abbrev pub granted : ℕ
@@ -81,3 +82,7 @@ number_of verdicts.Still = row_still
 number_of verdicts.Form = row_form
 number_of verdicts.Deep = row_deep
 number_of verdicts.Feeding = row_feeding
+
+-- a number read as a verdict: the one of that number, or none, past the last
+abbrev pub IsVerdict : ℕ → Result Verdict NoVerdict → Type 0
+IsVerdict n r = MatchResult r (λ v. number_of v ≡ n) (λ _. row_feeding < n)

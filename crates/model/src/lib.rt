@@ -2,7 +2,7 @@
 #![tactic(auto)]
 
 ghost use Rattle.std.specs.Prelude.{◌≡◌};
-ghost use Rattle.model.specs.Verdicts.{is_done, number_of};
+ghost use Rattle.model.specs.Verdicts.{is_done, number_of, IsVerdict};
 
 // A call with its numbers, told by document 01's letters. Levels are as wide as thing numbers, so that what a caller names reaches
 // the rules uncut.
@@ -111,6 +111,39 @@ impl Verdict {
         ensures { result ≡ is_done (number_of self) }
     {
         matches!(self, Verdict::Granted | Verdict::Slipped)
+    }
+}
+
+// A number that is no verdict's.
+#[derive(Clone, Copy, Debug, PartialEq, Eq)]
+pub struct NoVerdict;
+
+impl TryFrom<u8> for Verdict {
+    type Error = NoVerdict;
+
+    ghost try_from_gives = { IsVerdict };
+
+    fn try_from(number: u8) -> Result<Verdict, NoVerdict> {
+        match number {
+            0 => Ok(Verdict::Granted),
+            1 => Ok(Verdict::Slipped),
+            2 => Ok(Verdict::State),
+            3 => Ok(Verdict::Order),
+            4 => Ok(Verdict::Number),
+            5 => Ok(Verdict::Taken),
+            6 => Ok(Verdict::Driver),
+            7 => Ok(Verdict::Place),
+            8 => Ok(Verdict::Held),
+            9 => Ok(Verdict::Scale),
+            10 => Ok(Verdict::Path),
+            11 => Ok(Verdict::Rule),
+            12 => Ok(Verdict::Filled),
+            13 => Ok(Verdict::Still),
+            14 => Ok(Verdict::Form),
+            15 => Ok(Verdict::Deep),
+            16 => Ok(Verdict::Feeding),
+            _ => Err(NoVerdict),
+        }
     }
 }
 

@@ -3,10 +3,11 @@
 
 ghost use Rattle.std.specs.Prelude.{◌≡◌, true, false, ◌<◌};
 ghost use Rattle.bits.specs.All.{one};
-ghost use Rattle.decisions.specs.Decisions.{settled, read_decision, write_decision, move_decision, delete_decision, call_decision, invoke_decision, relay_decision};
+ghost use Rattle.decisions.specs.Decisions.{numbered, settled, read_decision, write_decision, move_decision, delete_decision, call_decision, invoke_decision, relay_decision};
 ghost use Rattle.table.specs.Table.{operations, operation_at, setting, settings, ruled, decided, decision_of, filled};
 
 use decisions::{Decision, settled};
+use model::Verdict;
 
 // The eight operations whose decisions are looked up.
 #[derive(Clone, Copy)]
@@ -167,10 +168,13 @@ fn setting(f0: bool, f1: bool, f2: bool, f3: bool, f4: bool, f5: bool) -> usize
 // What an entry says.
 #[tactic(auto, unfolding(bits::specs::Bit::bit))]
 fn meaning(entry: u8) -> Decision
-    ensures { result ≡ decision_of entry }
+    ensures { numbered result ≡ decision_of entry }
 {
+    let Ok(verdict) = Verdict::try_from(entry % 16) else {
+        unreachable!()
+    };
     Decision {
-        verdict: entry % 16,
+        verdict,
         first: entry / 16 % 2 == 1,
         second: entry / 32 % 2 == 1,
     }
@@ -186,7 +190,7 @@ fn look_up(
     f4: bool,
     f5: bool,
 ) -> Decision
-    ensures { result ≡ decided operation «f0» «f1» «f2» «f3» «f4» «f5» }
+    ensures { numbered result ≡ decided operation «f0» «f1» «f2» «f3» «f4» «f5» }
 {
     let table = whole_table();
     let s = setting(f0, f1, f2, f3, f4, f5);
@@ -203,7 +207,7 @@ fn ruled(
     f4: bool,
     f5: bool,
 ) -> Decision
-    ensures { result ≡ ruled operation «f0» «f1» «f2» «f3» «f4» «f5» }
+    ensures { numbered result ≡ ruled operation «f0» «f1» «f2» «f3» «f4» «f5» }
 {
     match operation {
         Operation::Read => decisions::read(f0, f1, f2, f3, f4, f5),
@@ -226,7 +230,7 @@ pub fn by_rules(
     f4: bool,
     f5: bool,
 ) -> Decision
-    ensures { result ≡ decided operation «f0» «f1» «f2» «f3» «f4» «f5» }
+    ensures { numbered result ≡ decided operation «f0» «f1» «f2» «f3» «f4» «f5» }
 {
     settled(ruled(operation, f0, f1, f2, f3, f4, f5))
 }
@@ -244,7 +248,7 @@ pub trait Engine {
         f4: bool,
         f5: bool,
     ) -> Decision
-        ensures { result ≡ decided operation «f0» «f1» «f2» «f3» «f4» «f5» };
+        ensures { numbered result ≡ decided operation «f0» «f1» «f2» «f3» «f4» «f5» };
 }
 
 pub struct Table;
@@ -289,7 +293,7 @@ pub fn read<E: Engine>(
     driver_marked: bool,
     task_marked: bool,
 ) -> Decision
-    ensures { result ≡ settled (read_decision task_driver read_driver task_object read_object driver_marked task_marked) }
+    ensures { numbered result ≡ settled (read_decision task_driver read_driver task_object read_object driver_marked task_marked) }
 {
     E::decide(
         Operation::Read,
@@ -303,7 +307,7 @@ pub fn read<E: Engine>(
 }
 
 pub fn write<E: Engine>(object_task: bool, driver_marked: bool) -> Decision
-    ensures { result ≡ settled (write_decision object_task driver_marked) }
+    ensures { numbered result ≡ settled (write_decision object_task driver_marked) }
 {
     E::decide(
         Operation::Write,
@@ -317,7 +321,7 @@ pub fn write<E: Engine>(object_task: bool, driver_marked: bool) -> Decision
 }
 
 pub fn move_object<E: Engine>(object_task: bool, object_to: bool, driver_marked: bool) -> Decision
-    ensures { result ≡ settled (move_decision object_task object_to driver_marked) }
+    ensures { numbered result ≡ settled (move_decision object_task object_to driver_marked) }
 {
     E::decide(
         Operation::Move,
@@ -331,7 +335,7 @@ pub fn move_object<E: Engine>(object_task: bool, object_to: bool, driver_marked:
 }
 
 pub fn delete<E: Engine>(object_task: bool, driver_marked: bool) -> Decision
-    ensures { result ≡ settled (delete_decision object_task driver_marked) }
+    ensures { numbered result ≡ settled (delete_decision object_task driver_marked) }
 {
     E::decide(
         Operation::Delete,
@@ -350,7 +354,7 @@ pub fn call_task<E: Engine>(
     caller_marked: bool,
     callee_marked: bool,
 ) -> Decision
-    ensures { result ≡ settled (call_decision caller_callee read_callee caller_marked callee_marked) }
+    ensures { numbered result ≡ settled (call_decision caller_callee read_callee caller_marked callee_marked) }
 {
     E::decide(
         Operation::Call,
@@ -364,7 +368,7 @@ pub fn call_task<E: Engine>(
 }
 
 pub fn invoke<E: Engine>(invokee_invoker: bool, invoker_marked: bool) -> Decision
-    ensures { result ≡ settled (invoke_decision invokee_invoker invoker_marked) }
+    ensures { numbered result ≡ settled (invoke_decision invokee_invoker invoker_marked) }
 {
     E::decide(
         Operation::Invoke,
