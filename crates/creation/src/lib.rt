@@ -2,6 +2,7 @@
 #![tactic(auto)]
 
 ghost use Rattle.std.specs.Prelude.{◌≡◌};
+ghost use Rattle.model.specs.Verdicts.{number_of};
 ghost use Rattle.model.specs.State.{memory};
 ghost use Rattle.model.specs.Ready.{Ready};
 ghost use Rattle.model.specs.Events as model;
@@ -12,7 +13,7 @@ mod judge;
 
 use decisions::facts::View;
 use levels::Order;
-use model::SLIPPED;
+use model::Verdict;
 use records::ROOT_SIGN;
 
 pub fn execute(
@@ -24,9 +25,9 @@ pub fn execute(
     new: u16,
     level: u16,
     read_level: u16,
-) -> u8
+) -> Verdict
     requires { Ready order.now bytes.old words.old }
-    ensures { left result 0 bytes.new words.new ≡ outcome (memory bytes.old words.old) (model.execute order.now (memory bytes.old words.old) creator image new level read_level) }
+    ensures { left (number_of result) 0 bytes.new words.new ≡ outcome (memory bytes.old words.old) (model.execute order.now (memory bytes.old words.old) creator image new level read_level) }
 {
     let view = View {
         bytes,
@@ -34,7 +35,7 @@ pub fn execute(
         order,
     };
     let judged = judge::execute(&view, creator, image, new, level, read_level);
-    if judged.verdict <= SLIPPED {
+    if judged.verdict.is_done() {
         effects::execute(bytes, words, judged, image, new, level, read_level);
     }
     judged.verdict
@@ -49,9 +50,9 @@ pub fn create(
     new: u16,
     container: u16,
     level: u16,
-) -> u8
+) -> Verdict
     requires { Ready order.now bytes.old words.old }
-    ensures { left result 0 bytes.new words.new ≡ outcome (memory bytes.old words.old) (model.create order.now (memory bytes.old words.old) creator driver new container level) }
+    ensures { left (number_of result) 0 bytes.new words.new ≡ outcome (memory bytes.old words.old) (model.create order.now (memory bytes.old words.old) creator driver new container level) }
 {
     let view = View {
         bytes,
@@ -59,7 +60,7 @@ pub fn create(
         order,
     };
     let judged = judge::create(&view, creator, driver, new, container, level);
-    if judged.verdict <= SLIPPED {
+    if judged.verdict.is_done() {
         effects::create(bytes, words, judged, creator, driver, new, container, level);
     }
     judged.verdict
@@ -73,9 +74,9 @@ pub fn create_root(
     driver: u16,
     new: u16,
     level: u16,
-) -> u8
+) -> Verdict
     requires { Ready order.now bytes.old words.old }
-    ensures { left result 0 bytes.new words.new ≡ outcome (memory bytes.old words.old) (model.create_root order.now (memory bytes.old words.old) creator driver new level) }
+    ensures { left (number_of result) 0 bytes.new words.new ≡ outcome (memory bytes.old words.old) (model.create_root order.now (memory bytes.old words.old) creator driver new level) }
 {
     let view = View {
         bytes,
@@ -83,7 +84,7 @@ pub fn create_root(
         order,
     };
     let judged = judge::create_root(&view, creator, driver, new, level);
-    if judged.verdict <= SLIPPED {
+    if judged.verdict.is_done() {
         effects::create(
             bytes,
             words,

@@ -3,7 +3,7 @@
 use Rattle.std.specs.Prelude.{◌≡◌, refl, Bool, false, ◌&&◌, List, ◌∷◌, ℕ, ◌≤◌, ◌<◌}
 use Rattle.std.proofs.Common.{sym, ap, ap₂, ◌∙◌, arith, le-leb}
 use Rattle.std.proofs.Math.Bool.{true}
-use Rattle.std.proofs.lemmas.Bool.{lt-leb}
+use Rattle.std.proofs.lemmas.Bool.{leb-true, leb-false, lt-leb}
 use Rattle.rows.specs.Size.{numbers}
 use Rattle.records.specs.Records.{BytesLent}
 use Rattle.model.specs.Verdicts.{granted, slipped, row_number, row_path, row_rule, is_done}
@@ -56,6 +56,13 @@ pub ends_done : (honest : Bool) → is_done (unless honest slipped granted) ≡ 
 unfolding unless
 ends_done true = refl
 ends_done false = refl
+
+-- what the code's test of a verdict tells of its number
+pub passed : {v : ℕ} {b : Bool} → b ≡ is_done v → b ≡ true → v ≤ slipped
+passed e h = leb-true _ _ (sym e ∙ h)
+
+pub failed : {v : ℕ} {b : Bool} → b ≡ is_done v → b ≡ false → slipped < v
+failed e h = leb-false _ _ (sym e ∙ h)
 
 -- ---- the outcome
 

@@ -3,6 +3,7 @@
 
 ghost use Rattle.std.specs.Prelude.{◌≡◌, ◌&&◌};
 ghost use Rattle.records.specs.Records.{is_task};
+ghost use Rattle.model.specs.Verdicts.{number_of};
 ghost use Rattle.model.specs.State.{memory};
 ghost use Rattle.model.specs.Ready.{Ready};
 ghost use Rattle.model.specs.Events as model;
@@ -13,7 +14,7 @@ mod judge;
 use decisions::effects;
 use decisions::facts::View;
 use levels::Order;
-use model::{NUMBER, SLIPPED};
+use model::Verdict;
 use table::Engine;
 
 // All but a find refuse wrong numbers first, and leave.
@@ -23,16 +24,20 @@ pub fn call_task<E: Engine>(
     order: &Order,
     caller: u16,
     callee: u16,
-) -> u8
+) -> Verdict
     requires { Ready order.now bytes.now words.old }
-    ensures { left result 0 bytes.now words.new ≡ outcome (memory bytes.now words.old) (model.call_task order.now (memory bytes.now words.old) caller callee) }
+    ensures { left (number_of result) 0 bytes.now words.new ≡ outcome (memory bytes.now words.old) (model.call_task order.now (memory bytes.now words.old) caller callee) }
 {
-    let view = View { bytes, words, order };
+    let view = View {
+        bytes,
+        words,
+        order,
+    };
     if !view.are_tasks(caller, callee) {
-        return NUMBER;
+        return Verdict::Number;
     }
     let judged = judge::call_task::<E>(&view, caller, callee);
-    if judged.verdict <= SLIPPED {
+    if judged.verdict.is_done() {
         effects::record_both(words, judged, callee, caller, caller, callee);
     }
     judged.verdict
@@ -44,16 +49,20 @@ pub fn invoke<E: Engine>(
     order: &Order,
     invoker: u16,
     invokee: u16,
-) -> u8
+) -> Verdict
     requires { Ready order.now bytes.now words.old }
-    ensures { left result 0 bytes.now words.new ≡ outcome (memory bytes.now words.old) (model.invoke order.now (memory bytes.now words.old) invoker invokee) }
+    ensures { left (number_of result) 0 bytes.now words.new ≡ outcome (memory bytes.now words.old) (model.invoke order.now (memory bytes.now words.old) invoker invokee) }
 {
-    let view = View { bytes, words, order };
+    let view = View {
+        bytes,
+        words,
+        order,
+    };
     if !view.are_tasks(invoker, invokee) {
-        return NUMBER;
+        return Verdict::Number;
     }
     let judged = judge::invoke::<E>(&view, invoker, invokee);
-    if judged.verdict <= SLIPPED {
+    if judged.verdict.is_done() {
         effects::record_both(words, judged, invoker, invokee, invokee, invoker);
     }
     judged.verdict
@@ -66,16 +75,20 @@ pub fn pass<E: Engine>(
     z: u16,
     x: u16,
     y: u16,
-) -> u8
+) -> Verdict
     requires { Ready order.now bytes.now words.old }
-    ensures { left result 0 bytes.now words.new ≡ outcome (memory bytes.now words.old) (model.pass order.now (memory bytes.now words.old) z x y) }
+    ensures { left (number_of result) 0 bytes.now words.new ≡ outcome (memory bytes.now words.old) (model.pass order.now (memory bytes.now words.old) z x y) }
 {
-    let view = View { bytes, words, order };
+    let view = View {
+        bytes,
+        words,
+        order,
+    };
     if !(view.is_task(z) & view.is_object(x) & view.in_use(y)) {
-        return NUMBER;
+        return Verdict::Number;
     }
     let judged = judge::pass::<E>(&view, z, x, y);
-    if judged.verdict <= SLIPPED {
+    if judged.verdict.is_done() {
         effects::record_first(words, judged, x, y);
     }
     judged.verdict
@@ -88,28 +101,36 @@ pub fn post<E: Engine>(
     x: u16,
     z: u16,
     y: u16,
-) -> u8
+) -> Verdict
     requires { Ready order.now bytes.now words.old }
-    ensures { left result 0 bytes.now words.new ≡ outcome (memory bytes.now words.old) (model.post order.now (memory bytes.now words.old) x z y) }
+    ensures { left (number_of result) 0 bytes.now words.new ≡ outcome (memory bytes.now words.old) (model.post order.now (memory bytes.now words.old) x z y) }
 {
-    let view = View { bytes, words, order };
+    let view = View {
+        bytes,
+        words,
+        order,
+    };
     if !(view.is_task(x) & view.is_object(z) & view.is_task(y)) {
-        return NUMBER;
+        return Verdict::Number;
     }
     let judged = judge::post::<E>(&view, x, z, y);
-    if judged.verdict <= SLIPPED {
+    if judged.verdict.is_done() {
         effects::record_first(words, judged, x, y);
     }
     judged.verdict
 }
 
-pub fn find(bytes: &[u8], words: &mut [u64], order: &Order, x: u16, z: u16, y: u16) -> u8
+pub fn find(bytes: &[u8], words: &mut [u64], order: &Order, x: u16, z: u16, y: u16) -> Verdict
     requires { Ready order.now bytes.now words.old }
-    ensures { left result 0 bytes.now words.new ≡ outcome (memory bytes.now words.old) (model.find order.now (memory bytes.now words.old) x z y) }
+    ensures { left (number_of result) 0 bytes.now words.new ≡ outcome (memory bytes.now words.old) (model.find order.now (memory bytes.now words.old) x z y) }
 {
-    let view = View { bytes, words, order };
+    let view = View {
+        bytes,
+        words,
+        order,
+    };
     let judged = judge::find(&view, x, z, y);
-    if judged.verdict <= SLIPPED {
+    if judged.verdict.is_done() {
         effects::record_first(words, judged, x, y);
     }
     judged.verdict

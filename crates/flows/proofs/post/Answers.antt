@@ -1,5 +1,5 @@
 use Rattle.model.specs.State.{task, object}
-use Rattle.decisions.specs.DecisionLaws.{done, refused, unnamed}
+use Rattle.decisions.specs.DecisionLaws.{passed, failed, done, refused, unnamed}
 use Rattle.flows.specs.FlowLaws.{post_verdict, post_told}
 use Rattle.flows.proofs.post.Goals as goal
 
@@ -9,8 +9,8 @@ returns-then-not-is_task-is_object g c =
     unnamed _ _ _ _ (post_verdict _ _ c.requires.0 _ _ _)
     (simp (c.is_task-2.ensures, c.is_object.ensures, c.is_task.ensures) at c.if-not-is_task-is_object.true)
 
-pub returns-then-judged-le-SLIPPED : goal.returns-then-judged-le-SLIPPED
-returns-then-judged-le-SLIPPED g c = done (post_told _ _ _ _ _) c.post-judged.ensures c.if-judged-le-SLIPPED.true (c.record_first.ensures _)
+pub returns-then-is_done : goal.returns-then-is_done
+returns-then-is_done g c = done (post_told _ _ _ _ _) c.post-judged.ensures (passed c.is_done.ensures c.if-is_done.true) (c.record_first.ensures _)
 
-pub returns-else-judged-le-SLIPPED : goal.returns-else-judged-le-SLIPPED
-returns-else-judged-le-SLIPPED g c = refused (post_told _ _ _ _ _) c.post-judged.ensures c.if-judged-le-SLIPPED.false
+pub returns-else-is_done : goal.returns-else-is_done
+returns-else-is_done g c = refused (post_told _ _ _ _ _) c.post-judged.ensures (failed c.is_done.ensures c.if-is_done.false)
