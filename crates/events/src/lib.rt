@@ -2,6 +2,7 @@
 #![tactic(auto)]
 
 ghost use Rattle.std.specs.Prelude.{◌≡◌};
+ghost use Rattle.model.specs.Verdicts.{number_of};
 ghost use Rattle.model.specs.State.{memory};
 ghost use Rattle.model.specs.Ready.{Ready};
 ghost use Rattle.model.specs.Events as model;
@@ -10,92 +11,108 @@ ghost use Rattle.model.specs.Events.{left, outcome};
 mod effects;
 mod judge;
 
-use decisions::facts::are_named;
+use decisions::facts::View;
 use levels::Order;
-use model::{NUMBER, SLIPPED};
+use model::Verdict;
 use table::Engine;
 
 // A read and a write refuse wrong numbers first, and leave.
-pub fn read(
+pub fn read<E: Engine>(
     bytes: &[u8],
     words: &mut [u64],
-    order: Order,
-    engine: Engine,
+    order: &Order,
     task: u16,
     driver: u16,
     object: u16,
-) -> u8
-    requires { Ready order bytes.now words.old }
-    ensures { left result 0 bytes.now words.new ≡ outcome (memory bytes.now words.old) (model.read order (memory bytes.now words.old) task driver object) }
+) -> Verdict
+    requires { Ready order.now bytes.now words.old }
+    ensures { left (number_of result) 0 bytes.now words.new ≡ outcome (memory bytes.now words.old) (model.read order.now (memory bytes.now words.old) task driver object) }
 {
-    if !are_named(bytes, task, driver, object) {
-        return NUMBER;
+    let view = View {
+        bytes,
+        words,
+        order,
+    };
+    if !view.are_named(task, driver, object) {
+        return Verdict::Number;
     }
-    let judged = judge::read(bytes, order, engine, task, driver, object);
-    if judged.verdict <= SLIPPED {
+    let judged = judge::read::<E>(&view, task, driver, object);
+    if judged.verdict.is_done() {
         effects::read(words, judged, task, driver, object);
     }
     judged.verdict
 }
 
-pub fn write(
+pub fn write<E: Engine>(
     bytes: &[u8],
     words: &mut [u64],
-    order: Order,
-    engine: Engine,
+    order: &Order,
     task: u16,
     driver: u16,
     object: u16,
-) -> u8
-    requires { Ready order bytes.now words.old }
-    ensures { left result 0 bytes.now words.new ≡ outcome (memory bytes.now words.old) (model.write order (memory bytes.now words.old) task driver object) }
+) -> Verdict
+    requires { Ready order.now bytes.now words.old }
+    ensures { left (number_of result) 0 bytes.now words.new ≡ outcome (memory bytes.now words.old) (model.write order.now (memory bytes.now words.old) task driver object) }
 {
-    if !are_named(bytes, task, driver, object) {
-        return NUMBER;
+    let view = View {
+        bytes,
+        words,
+        order,
+    };
+    if !view.are_named(task, driver, object) {
+        return Verdict::Number;
     }
-    let judged = judge::write(bytes, order, engine, task, driver, object);
-    if judged.verdict <= SLIPPED {
+    let judged = judge::write::<E>(&view, task, driver, object);
+    if judged.verdict.is_done() {
         effects::write(words, judged, task, driver, object);
     }
     judged.verdict
 }
 
-pub fn move_object(
+pub fn move_object<E: Engine>(
     bytes: &mut [u8],
     words: &mut [u64],
-    order: Order,
-    engine: Engine,
+    order: &Order,
     task: u16,
     driver: u16,
     object: u16,
     from: u16,
     to: u16,
-) -> u8
-    requires { Ready order bytes.old words.old }
-    ensures { left result 0 bytes.new words.new ≡ outcome (memory bytes.old words.old) (model.move order (memory bytes.old words.old) task driver object from to) }
+) -> Verdict
+    requires { Ready order.now bytes.old words.old }
+    ensures { left (number_of result) 0 bytes.new words.new ≡ outcome (memory bytes.old words.old) (model.move order.now (memory bytes.old words.old) task driver object from to) }
 {
-    let judged = judge::move_object(bytes, words, order, engine, task, driver, object, from, to);
-    if judged.verdict <= SLIPPED {
+    let view = View {
+        bytes,
+        words,
+        order,
+    };
+    let judged = judge::move_object::<E>(&view, task, driver, object, from, to);
+    if judged.verdict.is_done() {
         effects::move_object(bytes, words, judged, task, driver, object, to);
     }
     judged.verdict
 }
 
-pub fn delete(
+pub fn delete<E: Engine>(
     bytes: &mut [u8],
     words: &mut [u64],
-    order: Order,
-    engine: Engine,
+    order: &Order,
     task: u16,
     driver: u16,
     object: u16,
     container: u16,
-) -> u8
-    requires { Ready order bytes.old words.old }
-    ensures { left result 0 bytes.new words.new ≡ outcome (memory bytes.old words.old) (model.delete order (memory bytes.old words.old) task driver object container) }
+) -> Verdict
+    requires { Ready order.now bytes.old words.old }
+    ensures { left (number_of result) 0 bytes.new words.new ≡ outcome (memory bytes.old words.old) (model.delete order.now (memory bytes.old words.old) task driver object container) }
 {
-    let judged = judge::delete(bytes, words, order, engine, task, driver, object, container);
-    if judged.verdict <= SLIPPED {
+    let view = View {
+        bytes,
+        words,
+        order,
+    };
+    let judged = judge::delete::<E>(&view, task, driver, object, container);
+    if judged.verdict.is_done() {
         effects::delete(bytes, words, judged, task, driver, object);
     }
     judged.verdict

@@ -14,3 +14,4 @@ pub mod TallyLaws
 pub mod ToldLaws
 pub mod ReadyLaws
 pub mod RiskLaws
+pub mod VerdictLaws

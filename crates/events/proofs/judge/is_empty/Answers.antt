@@ -1,24 +1,24 @@
-use Rattle.std.proofs.Common.{◌≡◌, sym, ap, ◌∙◌, arith}
-use Rattle.std.proofs.Math.Bool.{not}
-use Rattle.bits.specs.AllLaws.{any_none, any_more, any_i}
+use Rattle.std.proofs.Common.{◌≡◌, refl, sym, ap, ◌∙◌, ℕ, zero, suc, Bool, ◌&&◌, ◌||◌, ◌+◌, eqb, add-zero, rules, arith}
+use Rattle.std.proofs.Math.Bool.{not, or_assoc}
+use Rattle.std.proofs.lemmas.Iterator.{YieldsList-from_range}
+use Rattle.std.proofs.lemmas.Iterator.Search.{any_from_yields_List}
+use Rattle.std.specs.List.{list_any, range_with_len}
+use Rattle.bits.specs.All.{any_b}
+use Rattle.bits.specs.AllLaws.{or_false, any_more}
 use Rattle.rows.specs.Size.{numbers}
+use Rattle.records.specs.Records.{container, is_object}
 use Rattle.events.specs.Judged.{is_empty}
-use Rattle.events.proofs.judge.is_empty.Invariants.{inside}
 use Rattle.events.proofs.judge.is_empty.Goals as goal
 
-pub loop-y-init : goal.loop-y-init
-loop-y-init c = (omega arith, any_none _)
-
-pub returns-then-lies_in : goal.returns-then-lies_in
-unfolding is_empty
-returns-then-lies_in c =
-    sym (ap not (any_i _ (inside c.args.bytes.now c.args.x) _ (omega arith) (simp c.lies_in.ensures at c.if-lies_in.true)))
-
-pub loop-y-preserved : goal.loop-y-preserved
-loop-y-preserved c = (omega arith, any_more _ _ ∙ rw c.loop-y.invariant.1 (simp c.lies_in.ensures at c.if-lies_in.false))
+-- some number below a, or one of the n from there on
+listed : (p : ℕ → Bool) (a n : ℕ) → (any_b a p || list_any p (range_with_len a n)) ≡ any_b (a + n) p
+listed p a zero = or_false (any_b a p) ∙ ap (λ (k : ℕ). any_b k p) (sym (add-zero a))
+listed p a (suc n) =
+    let e : a + 1 + n ≡ a + suc n = omega arith in
+    sym (or_assoc (any_b a p) (p a) _) ∙ rw (← any_more a p) (listed p (a + 1) n) ∙ ap (λ (k : ℕ). any_b k p) e
 
 pub returns : goal.returns
-unfolding is_empty
+unfolding is_empty any_b
 returns c =
-    let e : c.loop-y.y ≡ numbers = omega arith in
-    sym (ap not (rw e at c.loop-y.invariant.1))
+    let p : ℕ → Bool = λ y. is_object c.args.view.now.bytes.now y && eqb (container c.args.view.now.bytes.now y) c.args.x in
+    ap not (any_from_yields_List p _ _ _ c.any.ensures.ran (YieldsList-from_range 0 numbers numbers (cc) refl) (λ x b q h. search rules) ∙ listed p 0 numbers)
