@@ -88,14 +88,6 @@ impl Order {
         self.row_fits(row, a) && self.is_closed(row & !(1u16 << a))
     }
 
-    // Row a where it is past the count, else 0.
-    fn row_past(&self, a: u16) -> u16
-        requires { a < 16 }
-        ensures { result ≡ cond (ltb a self.now.count) 0 (row_of self.now a) }
-    {
-        if a < self.count { 0 } else { self.row_of(a) }
-    }
-
     // All rows past the count are empty: one test for them together.
     #[tactic(auto, using(bits::specs::BitLaws::or_zero, bits::specs::AllLaws::all_step), unfolding(crate::specs::OrderRows::rest_empty, bits::specs::All::all_b))]
     fn rest_empty(&self) -> bool
@@ -103,7 +95,9 @@ impl Order {
     {
         let mut any: u16 = 0;
         for k in 0..MOST_LEVELS {
-            any |= self.row_past(k);
+            if k >= self.count {
+                any |= self.row_of(k);
+            }
         }
         any == 0
     }
