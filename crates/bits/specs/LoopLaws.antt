@@ -1,12 +1,9 @@
 -- What a loop keeps, what it sets, and how many numbers pass.
 -- Assumes nothing.
-use Rattle.std.specs.Prelude.{◌≡◌, ◌⊎◌, Bool, true, false, ◌||◌}
-use Rattle.std.proofs.Math.Path.{refl, sym, ap, subst}
-use Rattle.std.proofs.Common.{◌∙◌, inl, inr, true≢false, arith}
-use Rattle.std.proofs.Math.Logic.{⊎_elim}
+use Rattle.std.specs.Prelude.{◌≡◌, refl, ◌⊎◌, Bool, true, false, ◌||◌, ℕ, zero, suc, ◌+◌, ◌≤◌, ◌<◌}
+use Rattle.std.proofs.Common.{sym, ap, ◌∙◌, subst, inl, inr, ⊎_elim, true≢false, le_of_suc-le-suc, not-suc-le-zero, zero-le, le_refl, le_trans, eq-or-lt_of_le, arith}
 use Rattle.std.proofs.Math.Bool.{or_assoc}
-use Prim.Native.Nat.{ℕ, zero, suc, ◌+◌, ◌≤◌, ◌<◌, zero-le}
-use native.Mathlib.Nat.{le_refl, le-suc, le_trans}
+use Rattle.std.proofs.Math.Nat.{le-suc}
 use Rattle.bits.specs.All.{up_to, all_b, any_b, ◌⇒◌, one, count_b}
 use Rattle.bits.specs.AllLaws.{either, or_false}
 
@@ -21,13 +18,13 @@ module _ {A : Type 0} (f : ℕ → A → A) where
   pub up_from : (P Q : A → Type 0) (n : ℕ) → ((i : ℕ) (s : A) → i < n → Q s → Q (f i s)) → ((i : ℕ) (s : A) → i < n → P s → P (f i s))
       → (k : ℕ) → k < n → ((s : A) → P s → Q (f k s)) → (s : A) → P s → Q (up_to f n s)
   unfolding up_to
-  up_from P Q zero keep first k l here s p = absurd (native.Mathlib.Nat.not-suc-le-zero l)
+  up_from P Q zero keep first k l here s p = absurd (not-suc-le-zero l)
   up_from P Q (suc n) keep first k l here s p =
       ⊎_elim
       (λ (e : k ≡ n). subst (λ (m : ℕ). Q (f m (up_to f n s))) e (here (up_to f n s) (up_keeps P n (λ i t b. first i t (le_trans b (le-suc n))) s p)))
       (λ (b : k < n). keep n (up_to f n s) (le_refl (suc n))
       (up_from P Q n (λ i t c. keep i t (le_trans c (le-suc n))) (λ i t c. first i t (le_trans c (le-suc n))) k b here s p))
-      (native.Mathlib.Nat.eq-or-lt_of_le (native.Mathlib.Nat.le_of_suc-le-suc l))
+      (eq-or-lt_of_le (le_of_suc-le-suc l))
 
   -- steps that set where p i holds, on what the loop keeps, set where some p i does
   pub up_sets : (I : A → Type 0) (has : A → Bool) (p : ℕ → Bool) (n : ℕ) → ((i : ℕ) (s : A) → I s → I (f i s))

@@ -5,6 +5,7 @@ ghost use Rattle.std.specs.Prelude.{◌≡◌, ◌<◌, ◌^◌};
 ghost use Rattle.std.specs.Int.Count.{ones, count_trailing_zeros};
 ghost use Rattle.bits.specs.Bit.{bit, joined};
 
+#[tactic(auto, unfolding(crate::specs::Bit::bit))]
 pub fn has_bit(w: u64, i: usize) -> bool
     requires { i < 64 }
     ensures { result ≡ bit w i }
@@ -23,19 +24,19 @@ pub fn mask(i: usize) -> u64
 pub fn count_of_ones(w: u64) -> u32
     ensures { result ≡ ones w }
 {
-    u64::count_ones(w)
+    w.count_ones()
 }
 
 // The place of the lowest one, and 64 where there is none.
 pub fn lowest_one(w: u64) -> u32
     ensures { result ≡ count_trailing_zeros 64 w }
 {
-    u64::trailing_zeros(w)
+    w.trailing_zeros()
 }
 
 // Four bytes as one number, the first lowest.
 pub fn join(a: u8, b: u8, c: u8, d: u8) -> usize
     ensures { result ≡ joined a b c d }
 {
-    (a as usize) + (b as usize) * 0x100 + (c as usize) * 0x1_0000 + (d as usize) * 0x100_0000
+    u32::from_le_bytes([a, b, c, d]) as usize
 }

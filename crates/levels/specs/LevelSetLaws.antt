@@ -1,11 +1,10 @@
 -- What a set of levels holds when a level joins it, and how the code tests that it fits.
 -- Assumes nothing.
-use Rattle.std.specs.Prelude.{◌≡◌, Bool, true, false, ◌||◌, ◌⊎◌, ℕ, ◌/◌, ◌^◌, ◌≤◌, ◌<◌, eqb, ltb}
-use Rattle.std.proofs.Common.{sym, ap, ◌∙◌, true≢false, inl, inr, ⊎_elim, arith}
-use borrow.Author.Tests.{eqb-true, ltb-true, lt-ltb, eq-eqb}
+use Rattle.std.specs.Prelude.{◌≡◌, Bool, true, ◌||◌, ℕ, ◌/◌, ◌^◌, ◌≤◌, ◌<◌, eqb, ltb}
+use Rattle.std.proofs.Common.{sym, ap, ◌∙◌, true≢false, ⊎_elim, arith, eqb-true, ltb-true, lt-ltb, eq-eqb}
 use Rattle.bits.specs.Bit.{bit}
 use Rattle.bits.specs.BitLaws.{bit_or_law, bit_pow, bit_zero}
-use Rattle.bits.specs.AllLaws.{either, both_ways, implies, implied, all_at, all_i, or_cases}
+use Rattle.bits.specs.AllLaws.{both_ways, implies, implied, all_at, all_i, or_cases}
 use Rattle.levels.specs.Order.{most_levels}
 use Rattle.levels.specs.OrderRowsLaws.{short_i, short_at}
 use Rattle.levels.specs.LevelSet.{with_level, set_fits}

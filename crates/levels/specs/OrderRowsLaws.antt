@@ -1,17 +1,13 @@
 -- The order's test by whole rows is the order's test.
 -- Assumes nothing.
-use Rattle.std.specs.Prelude.{◌≡◌, refl, ◌⊎◌, Bool, true, false, not, ◌&&◌, ◌||◌, List, ltb, eqb}
-use Rattle.std.proofs.Math.Path.{sym, ap}
-use Rattle.std.proofs.Common.{◌∙◌, subst, true≢false, lt_of_not-le, not-suc-le-zero, one-mul, arith, shr-shr}
-use Rattle.std.proofs.Math.Logic.{inl, inr, ⊎_elim}
+use Rattle.std.specs.Prelude.{◌≡◌, refl, ◌⊎◌, Bool, true, false, not, ◌&&◌, ◌||◌, List, ℕ, zero, suc, ◌+◌, ◌-◌, ◌/◌, ◌%◌, ◌^◌, ◌≤◌, ◌<◌, ltb, eqb, get_or}
+use Rattle.std.proofs.Common.{sym, ap, ◌∙◌, subst, inl, inr, ⊎_elim, true≢false, lt_of_not-le, not-suc-le-zero, one-mul, arith, shr-shr, ltb-true, lt-ltb, leb-true, le-leb, eqb-true, eq-eqb, ltb-false}
+use Rattle.std.proofs.lemmas.Bool.{not-true, eqb-false}
 use Rattle.std.proofs.Math.Bool.{and-eq-true_iff}
-use Prim.Native.Nat.{ℕ, zero, suc, ◌+◌, ◌-◌, ◌/◌, ◌%◌, ◌^◌, ◌≤◌, ◌<◌}
 use Rattle.std.specs.Int.Bits.{bit_and, bit_or, or_add_and, or_shifted_r, and_le_l}
 use Rattle.std.proofs.lemmas.Nat.{or_lt, and_le_r, leading_top, shr_le}
 use Rattle.std.specs.Int.Count.{count_trailing_zeros, count_leading_zeros}
-use Rattle.std.proofs.Math.ListN.{get_or}
 use Rattle.std.proofs.Math.Pow.{pow-lt}
-use borrow.Author.Tests.{ltb-true, lt-ltb, leb-true, le-leb, eqb-true, eqb-false, eq-eqb, ltb-false, not-true}
 use Rattle.bits.specs.Bit.{bit}
 use Rattle.bits.specs.BitLaws.{bit_and_law, bit_or_law, bit_not, bit_pow, bit_zero, bit_below, bit_ext, bit_rest, trailing_set}
 use Rattle.bits.specs.All.{all_b, ◌⇒◌}
@@ -30,17 +26,11 @@ top_bit w b c l h =
     ap (λ (x : ℕ). bit x c) e ∙ bit_or_law (w - 2 ^ b) (2 ^ b) c ∙ rw (bit_pow b c)
 
 -- where it is
-pub top_below : (w : ℕ) → 0 < w → w < 2 ^ 16 → count_leading_zeros 16 w ≤ 15
-top_below w some h = omega (arith, (leading_top 16 w some h).1)
-
 pub top_place : (w : ℕ) → 0 < w → w < 2 ^ 16 → (2 ^ (15 - count_leading_zeros 16 w) ≤ w) × (w < 2 ^ suc (15 - count_leading_zeros 16 w))
 top_place w some h =
     let t = leading_top 16 w some h in
     let e : 15 - count_leading_zeros 16 w ≡ t.0 = omega (arith, t.1) in
     rw e (t.2, t.3)
-
-pub top_less : (w m : ℕ) → 0 < w → w < 2 ^ 16 → bit_and (w - 2 ^ (15 - count_leading_zeros 16 w)) m < w
-top_less w m some h = omega (arith, top_place w some h, and_le_l (w - 2 ^ (15 - count_leading_zeros 16 w)) m)
 
 bit_shift : (w k i : ℕ) → bit (w / 2 ^ k) i ≡ bit w (k + i)
 unfolding bit

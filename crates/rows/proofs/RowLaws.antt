@@ -1,7 +1,7 @@
 -- What the operations on rows do to each column of each row, for every number n of words a row.
 -- Assumes nothing.
 use Rattle.std.specs.Prelude.{◌≡◌, refl, ◌⊎◌, Bool, true, false, not, ◌&&◌, ◌||◌, cond, List, ℕ, zero, suc, ◌+◌, ◌-◌, ◌*◌, ◌/◌, ◌%◌, ◌^◌, ◌≤◌, ◌<◌, eqb, ltb, length, get_or, set, replicate}
-use Rattle.std.proofs.Common.{sym, ap, ap₂, ◌∙◌, inl, inr, ⊎_elim, le_refl, le_trans, mul-le-mul_left, arith, length-set, get_or-set_same, get_or-set_other, eqb-true, eq-eqb, ltb-true, ltb-false, lt-ltb, le-ltb}
+use Rattle.std.proofs.Common.{sym, ap, ap₂, ◌∙◌, inl, inr, ⊎_elim, le_refl, le_trans, mul-le-mul_left, arith, add-one, length-set, get_or-set_same, get_or-set_other, eqb-true, eq-eqb, ltb-true, ltb-false, lt-ltb, le-ltb}
 use Rattle.std.proofs.Math.Bool.{and_assoc, and_comm, and-eq-true_iff}
 use Rattle.std.proofs.Math.Nat.{le-suc}
 use Rattle.std.proofs.Math.Arith.{digits_div, digits_mod}
@@ -9,7 +9,8 @@ use Rattle.std.specs.Int.Bits.{bit_and, bit_or, and_zero_l, or_zero_r}
 use Rattle.std.proofs.Math.ListN.{get_or-eq_default}
 use Rattle.std.proofs.Math.Pow.{pow-lt}
 use Rattle.std.proofs.lemmas.List.{set-get_or}
-use Rattle.std.proofs.Math.Seq.{set_out}
+use Rattle.std.proofs.Math.Seq.{set_out, paste}
+use Rattle.std.proofs.lemmas.List.Edits.{paste_none, fill_from_more}
 use Rattle.std.proofs.lemmas.Bool.{eqb-false}
 use Rattle.bits.specs.Bit.{bit, word_of}
 use Rattle.bits.specs.BitLaws.{bit_and_law, bit_or_law, bit_pow, bit_not, bit_zero, bit_word, word_is, word_lt}
@@ -46,8 +47,13 @@ get_d_change f ws p q h = ⊎_elim hit miss (either (eqb q p))
     miss : eqb q p ≡ false → get_or (set ws p (f (get_or ws p 0))) q 0 ≡ cond (eqb q p) (f (get_or ws q 0)) (get_or ws q 0)
     miss e = rw e (get_or-set_other ws p q _ 0 (eqb-false q p e))
 
-pub get_d_set : (ws : List ℕ) (p q v : ℕ) → p < length ws → get_or (set ws p v) q 0 ≡ cond (eqb q p) v (get_or ws q 0)
-get_d_set ws p q v h = get_d_change (λ w. v) ws p q (inl h)
+-- a loop of stores of y, one place after the other, is one fill
+pub up_fill : (ws : List ℕ) (p y n : ℕ) → p + n ≤ length ws → up_to (λ i v. set v (p + i) y) n ws ≡ paste ws p (replicate n y) n
+unfolding up_to
+up_fill ws p y zero h = paste_none ws p (replicate 0 y)
+up_fill ws p y (suc n) h =
+    ap (λ (v : List ℕ). set v (p + n) y) (up_fill ws p y n (omega arith)) ∙ fill_from_more ws p n y (omega arith)
+    ∙ ap (λ (k : ℕ). paste ws p (replicate k y) k) (add-one n)
 
 cell_change : (n : ℕ) (f : ℕ → ℕ) (ws : List ℕ) (p x y : ℕ) → (p < length ws) ⊎ (f 0 ≡ 0)
     → cell n (set ws p (f (get_or ws p 0))) x y ≡ cond (eqb (place n x y) p) (bit (f (get_or ws (place n x y) 0)) (y % 64)) (cell n ws x y)
@@ -57,10 +63,6 @@ cell_change n f ws p x y h = ap (λ (w : ℕ). bit w (y % 64)) (get_d_change f w
     go : (b : Bool) → bit (cond b (f (get_or ws (place n x y) 0)) (get_or ws (place n x y) 0)) (y % 64) ≡ cond b (bit (f (get_or ws (place n x y) 0)) (y % 64)) (bit (get_or ws (place n x y) 0) (y % 64))
     go true = refl
     go false = refl
-
--- a column after a store of any word
-pub cell_set : (n : ℕ) (ws : List ℕ) (p v x y : ℕ) → p < length ws → cell n (set ws p v) x y ≡ cond (eqb (place n x y) p) (bit v (y % 64)) (cell n ws x y)
-cell_set n ws p v x y h = cell_change n (λ w. v) ws p x y (inl h)
 
 -- ---- no two columns of rows of n words stand at one place
 
@@ -209,10 +211,6 @@ unfolding clear_thing
 length_clear n r t k ws = length_column n (r * t) k _ ∙ up_length _ t (λ i v. length_row n (r * i + k) v) ws
 
 -- ---- words that hold nothing
-
-pub cell_past : (n : ℕ) (ws : List ℕ) (x y : ℕ) → length ws ≤ place n x y → cell n ws x y ≡ false
-unfolding cell
-cell_past n ws x y h = ap (λ (w : ℕ). bit w (y % 64)) (get_or-eq_default ws 0 h) ∙ bit_zero (y % 64)
 
 pub cell_zeros : (n m x y : ℕ) → cell n (replicate m 0) x y ≡ false
 unfolding cell

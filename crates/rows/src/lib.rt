@@ -9,18 +9,15 @@ ghost use Rattle.rows.specs.Size.{row_size, numbers, tables, WordsLent};
 
 pub const ROW_WORDS: usize = 2;
 
-// A table has a row for each number, and a row a bit for each.
-const ROWS: usize = 64 * ROW_WORDS;
-
-// How many numbers there are, in the width in which a call names one.
-pub const NUMBERS: u16 = ROWS as u16;
+// How many numbers there are, in the width in which a call names one. A table has a row for each number, and a row a bit for each.
+pub const NUMBERS: u16 = (64 * ROW_WORDS) as u16;
 
 // Flows, read accesses and write accesses, one after the other, and the words of them all.
-const TABLES: usize = 3;
+const TABLES: u16 = 3;
 
-const ALL_ROWS: usize = ROWS * TABLES;
+const ALL_ROWS: u16 = NUMBERS * TABLES;
 
-pub const WORDS: usize = ROW_WORDS * ALL_ROWS;
+pub const WORDS: usize = ROW_WORDS * (ALL_ROWS as usize);
 
 // The rows at which the accesses begin.
 pub const READS: u16 = NUMBERS;
@@ -33,10 +30,11 @@ pub const WRITES: u16 = 2 * NUMBERS;
 pub fn word(words: &[u64], i: usize) -> u64
     ensures { result ≡ get_or words.now i 0 }
 {
-    if i < words.len() { words[i] } else { 0 }
+    words.get(i).copied().unwrap_or(0)
 }
 
 // A store, and none past the end.
+// By hand: `get_mut` of a slice promises nothing of what the slice holds after the store.
 pub fn put(words: &mut [u64], i: usize, w: u64)
     ensures { words.new ≡ set words.old i w }
 {
@@ -51,6 +49,7 @@ fn place_of(row: u16, col: u16) -> usize
     ROW_WORDS * (row as usize) + (col as usize) / 64
 }
 
+#[tactic(auto, unfolding(crate::specs::Rows::cell))]
 pub fn has(words: &[u64], row: u16, col: u16) -> bool
     ensures { result ≡ cell row_size words.now row col }
 {
@@ -58,6 +57,7 @@ pub fn has(words: &[u64], row: u16, col: u16) -> bool
     bits::has_bit(w, (col as usize) % 64)
 }
 
+#[tactic(auto, unfolding(crate::specs::Rows::add_cell))]
 pub fn add(words: &mut [u64], row: u16, col: u16)
     ensures { words.new ≡ add_cell row_size words.old row col }
 {
@@ -74,56 +74,48 @@ pub fn add_if(words: &mut [u64], when: bool, row: u16, col: u16)
     }
 }
 
-fn cut(words: &mut [u64], row: usize, col: usize)
+#[tactic(auto, unfolding(crate::specs::Rows::cut_cell))]
+fn cut(words: &mut [u64], row: u16, col: u16)
     requires { place row_size row col < length words.old }
     ensures { words.new ≡ cut_cell row_size words.old row col }
 {
-    let at = ROW_WORDS * row + col / 64;
-    words[at] = words[at] & !bits::mask(col % 64);
+    let at = place_of(row, col);
+    words[at] &= !bits::mask((col as usize) % 64);
 }
 
-fn clear_row(words: &mut [u64], row: usize)
+fn clear_row(words: &mut [u64], row: u16)
     requires { row_size * row + row_size ≤ length words.old }
     ensures { words.new ≡ clear_row row_size row words.old }
 {
-    let mut i = 0;
-    while i < ROW_WORDS {
-        words[ROW_WORDS * row + i] = 0;
-        i += 1;
-    }
+    let start = ROW_WORDS * (row as usize);
+    words[start..start + ROW_WORDS].fill(0);
 }
 
 // The column in the first `rows` rows.
-fn clear_column(words: &mut [u64], rows: usize, col: usize)
+#[tactic(auto, unfolding(crate::specs::Rows::clear_column, bits::specs::All::up_to))]
+fn clear_column(words: &mut [u64], rows: u16, col: u16)
     requires { (row_size * rows ≤ length words.old) × (col < numbers) }
     ensures { words.new ≡ clear_column row_size rows col words.old }
 {
-    let mut row = 0;
-    while row < rows {
+    for row in 0..rows {
         cut(words, row, col);
-        row += 1;
     }
 }
 
 // Row k of each table, and column k of all.
+#[tactic(auto, unfolding(crate::specs::Rows::clear_thing, bits::specs::All::up_to))]
 pub fn clear_thing(words: &mut [u64], k: u16)
     requires { WordsLent words.old × (k < numbers) }
     ensures { words.new ≡ clear_thing row_size numbers tables k words.old }
 {
-    let mut i = 0;
-    while i < TABLES {
-        clear_row(words, ROWS * i + (k as usize));
-        i += 1;
+    for i in 0..TABLES {
+        clear_row(words, NUMBERS * i + k);
     }
-    clear_column(words, ALL_ROWS, k as usize);
+    clear_column(words, ALL_ROWS, k);
 }
 
 pub fn clear_all(words: &mut [u64])
     ensures { words.new ≡ replicate (length words.old) 0 }
 {
-    let mut i = 0;
-    while i < words.len() {
-        words[i] = 0;
-        i += 1;
-    }
+    words.fill(0);
 }

@@ -1,20 +1,19 @@
-use Rattle.std.proofs.Common.{◌≡◌, ℕ, true, ltb, length, get_or, Fits, w16, sym, rules}
+use Rattle.std.proofs.Common.{◌≡◌, ◌<◌, ◌^◌, true, ltb, get_or, sym, ◌∙◌, rules}
 use Rattle.std.proofs.Math.Bool.{and-eq-true_iff}
-use Rattle.bits.specs.Bit.{bit}
 use Rattle.levels.specs.Order.{at_or_below}
-use Rattle.levels.specs.OrderLaws.{at_outside}
+use Rattle.levels.specs.OrderLaws.{at_past}
 use Rattle.levels.proofs.Order.at_or_below.Goals as goal
 
-pub returns-then-a-self : goal.returns-then-a-self
-unfolding at_or_below bit
-returns-then-a-self c =
-    let p = simp and-eq-true_iff at c.if-a-self.true in
-    let within : ltb c.args.a c.args.self.count ≡ true = p.0.0.0 in
-    rw (within, p.0.0.1)
+pub returns-then-a-n : goal.returns-then-a-n
+unfolding at_or_below
+returns-then-a-n c =
+    let row : c.unwrap_or-row.result ≡ get_or c.args.self.now.rows c.args.a 0 = search rules in
+    let p = simp and-eq-true_iff at c.if-a-n.true in
+    let within : ltb c.args.a c.args.self.now.count ≡ true = p.0.0 in
+    rw (within, p.0.1, ← row) c.in_row.ensures
 
-pub returns-else-a-self : goal.returns-else-a-self
-returns-else-a-self c =
-    let o = c.args.self in
-    let fits : (k : ℕ) → Fits w16 (get_or o.rows k 0) = λ k. search rules in
-    let long : length o.rows ≡ 16 = search rules in
-    sym (at_outside o long (λ k. (fits k).fits) _ _ c.if-a-self.false)
+pub returns-else-a-n : goal.returns-else-a-n
+returns-else-a-n c =
+    let row : c.unwrap_or-row.result ≡ get_or c.args.self.now.rows c.args.a 0 = search rules in
+    let fits : get_or c.args.self.now.rows c.args.a 0 < 2 ^ 16 = rw (← row) c.unwrap_or-row.type_inv in
+    c.if-a-n.false ∙ sym (at_past _ _ _ fits c.if-a-n.false)

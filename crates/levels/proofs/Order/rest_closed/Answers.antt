@@ -1,18 +1,17 @@
 -- Before each turn the levels of the set that are not left are covered.
--- Assumes nothing.
 use Rattle.std.proofs.Common.{◌-◌, arith}
-use Rattle.std.proofs.lemmas.Bool.{true≢false, false≢true, eq-eqb, ne_eqb}
+use Rattle.std.proofs.lemmas.Bool.{eq-eqb, ne_eqb}
 use Rattle.std.specs.Int.Count.{count_leading_zeros}
 use Rattle.bits.specs.BitLaws.{one_shl}
 use Rattle.levels.specs.OrderRows.{within}
 use Rattle.levels.specs.OrderRowsLaws.{passed_all, passed_fails, passed_over, highest_in, without_highest, top_place}
-use Rattle.levels.proofs.rest_closed.Goals as goal
+use Rattle.levels.proofs.Order.rest_closed.Goals as goal
 
 pub returns-then-row-set : goal.returns-then-row-set
 unfolding within
 returns-then-row-set c =
     let l = c.loop-left in
-    (λ e. absurd (false≢true e), λ e. passed_fails _ _ _ l.invariant _ (highest_in _ _ _ l.invariant (omega arith)) (ne_eqb _ _ c.if-row-set.true))
+    passed_fails _ _ _ l.invariant _ (highest_in _ _ _ l.invariant (omega arith)) (ne_eqb _ _ c.if-row-set.true)
 
 pub overflow_sub-left : goal.overflow_sub-left
 overflow_sub-left c =
@@ -28,4 +27,4 @@ loop-left-preserved c =
     (passed_over _ _ _ (without_highest _ _ _ l.invariant (omega arith) e) _ (l.invariant.of_w _ (highest_in _ _ _ l.invariant (omega arith))) (c.requires.0 _) e)
 
 pub returns : goal.returns
-returns c = (λ e. passed_all _ _ (rw c.loop-left-test.false at c.loop-left.invariant), λ e. absurd (true≢false e))
+returns c = passed_all _ _ (rw c.loop-left-test.false at c.loop-left.invariant)
