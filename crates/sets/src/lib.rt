@@ -57,32 +57,34 @@ pub fn with_field(bytes: &[u8], f: usize) -> Set
     }
 }
 
-// By hand: `union`, `common` and `without` differ in an operator alone; one function that is given the operator is longer than they are.
+// Two sets together, word by word.
+fn by_words<F: Fn(u64, u64) -> u64>(a: Set, b: Set, join: F) -> Set
+    requires { F.IsAlwaysCallable join }
+    ensures low { F.post join a.low b.low result.low }
+    ensures high { F.post join a.high b.high result.high }
+{
+    Set {
+        low: join(a.low, b.low),
+        high: join(a.high, b.high),
+    }
+}
+
 pub fn union(a: Set, b: Set) -> Set
     ensures { result ≡ set_of (λ x. has a x || has b x) }
 {
-    Set {
-        low: a.low | b.low,
-        high: a.high | b.high,
-    }
+    by_words(a, b, |x, y| x | y)
 }
 
 pub fn common(a: Set, b: Set) -> Set
     ensures { result ≡ set_of (λ x. has a x && has b x) }
 {
-    Set {
-        low: a.low & b.low,
-        high: a.high & b.high,
-    }
+    by_words(a, b, |x, y| x & y)
 }
 
 pub fn without(a: Set, b: Set) -> Set
     ensures { result ≡ set_of (λ x. has a x && not (has b x)) }
 {
-    Set {
-        low: a.low & !b.low,
-        high: a.high & !b.high,
-    }
+    by_words(a, b, |x, y| x & !y)
 }
 
 #[tactic(auto, using(crate::specs::SetLaws::empty_is, crate::specs::SetLaws::fits))]
