@@ -1,8 +1,7 @@
 -- The records in groups of eight, and what is gathered from group after group.
 -- Assumes nothing.
 use Rattle.std.specs.Prelude.{◌≡◌, Bool, true, ◌&&◌, List, ℕ, ◌+◌, ◌-◌, ◌*◌, ◌%◌, ◌≤◌, ◌<◌, eqb, ltb, get_or}
-use Rattle.std.proofs.Math.Path.{sym}
-use Rattle.std.proofs.Common.{◌∙◌, ⊎_elim, true≢false, not-le_of_lt, arith, Fits, eqb-true, ltb-true, ltb-false, lt-ltb}
+use Rattle.std.proofs.Common.{sym, ◌∙◌, ⊎_elim, true≢false, not-le_of_lt, arith, Fits, eqb-true, ltb-true, ltb-false, lt-ltb}
 use Rattle.std.proofs.Math.Bool.{and-eq-true_iff}
 use Rattle.std.specs.Int.{w8}
 use Rattle.bits.specs.All.{all_b}
@@ -48,9 +47,6 @@ unfolding group_free
 in_group bs x y h l m =
     let e : x + (y - x) ≡ y = omega arith in
     rw e at (all_at group_size (λ k. eqb (word bs (x + k)) 0) h (y - x) (omega arith))
-
-pub free_none : (bs : List ℕ) (from : ℕ) → from ≤ numbers → from % group_size ≡ 0 → FreeUntil bs from from
-free_none bs from l w = record { further = omega arith; in_range = l; whole = w; free = λ x a b. absurd (not-le_of_lt b a) }
 
 pub free_more : (bs : List ℕ) (from n : ℕ) → FreeUntil bs from n → n + 32 ≤ numbers → groups_free bs n ≡ true → FreeUntil bs from (n + 32)
 unfolding groups_free

@@ -1,13 +1,10 @@
 -- What sound bytes give at each number, and what a store does to each field.
 -- Assumes nothing.
-use Rattle.std.specs.Prelude.{◌≡◌, ◌⊎◌, Bool, false, ◌||◌, ℕ, ◌+◌, ◌*◌, ◌<◌, ◌≤◌}
-use Rattle.std.proofs.Common.{sym, ap, ◌∙◌, lt_of_not-le, arith, length-set, get_or-set_same, get_or-set_other}
-use Rattle.std.proofs.Math.Logic.{inl, inr, ⊎_elim}
-use Rattle.std.proofs.Math.Bool.{true, not, cond, and-eq-true_iff}
-use mathlib.Core.List.{List}
-use Rattle.std.proofs.Math.Dec.{ltb, eqb}
-use Rattle.std.proofs.Math.ListN.{length, get_or-eq_default}
-use borrow.Author.Tests.{eqb-true, eqb-false, eq-eqb, ne_eqb, ltb-true, ltb-false, lt-ltb, not-true}
+use Rattle.std.specs.Prelude.{◌≡◌, ◌⊎◌, Bool, true, false, not, cond, ◌||◌, List, length, ℕ, ◌+◌, ◌*◌, ◌<◌, ◌≤◌, ltb, eqb}
+use Rattle.std.proofs.Common.{sym, ap, ◌∙◌, inl, inr, ⊎_elim, lt_of_not-le, arith, length-set, get_or-set_same, get_or-set_other, eqb-true, eq-eqb, ne_eqb, ltb-true, ltb-false, lt-ltb}
+use Rattle.std.proofs.lemmas.Bool.{eqb-false, not-true}
+use Rattle.std.proofs.Math.Bool.{and-eq-true_iff}
+use Rattle.std.proofs.Math.ListN.{get_or-eq_default}
 use Rattle.bits.specs.AllLaws.{all_at, all_i, all_fails, and_i, either, or_cases, or_l, or_r, or_false}
 use Rattle.rows.specs.Size.{Size, numbers_of}
 use Rattle.levels.specs.declared.Order.{Order}

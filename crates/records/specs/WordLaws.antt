@@ -1,21 +1,18 @@
 -- A record read as one number of eight bytes, and the tests of soundness on it.
 -- Assumes nothing.
-use Rattle.std.specs.Prelude.{◌≡◌, refl, Bool, not, cond, ◌&&◌, ◌||◌, List, ℕ, zero, suc, ◌+◌, ◌-◌, ◌*◌, ◌/◌, ◌%◌, ◌<◌, ◌≤◌, get_or}
-use Rattle.std.proofs.Math.Path.{sym}
-use Rattle.std.proofs.Common.{◌∙◌, inl, inr, mod-eq_of_lt, arith, Fits}
-use Rattle.std.proofs.Math.Logic.{⊎_elim}
-use Rattle.std.proofs.Math.Bool.{true, false, and-eq-true_iff, true-and, and_assoc}
-use Rattle.std.proofs.Math.Nat.{lt_of_not-le, add-mul-mod_self_left}
-use Rattle.std.proofs.Math.Dec.{ltb, eqb}
+use Rattle.std.specs.Prelude.{◌≡◌, refl, Bool, true, false, not, cond, ◌&&◌, ◌||◌, List, ℕ, zero, suc, ◌+◌, ◌-◌, ◌*◌, ◌/◌, ◌%◌, ◌<◌, ◌≤◌, ltb, eqb, get_or}
 use Rattle.std.specs.Int.{w8}
-use borrow.Author.Tests.{eqb-true, eqb-false, eq-eqb, ne_eqb, ltb-true, lt-ltb, ltb-false, le-ltb, not-true}
+use Rattle.std.proofs.Common.{sym, ◌∙◌, inl, inr, ⊎_elim, lt_of_not-le, mod-eq_of_lt, arith, Fits, eqb-true, eq-eqb, ne_eqb, ltb-true, lt-ltb, ltb-false, le-ltb}
+use Rattle.std.proofs.lemmas.Bool.{eqb-false, not-true}
+use Rattle.std.proofs.Math.Bool.{and-eq-true_iff, true-and, and_assoc}
+use Rattle.std.proofs.Math.Nat.{add-mul-mod_self_left}
 use Rattle.bits.specs.All.{all_b}
 use Rattle.bits.specs.AllLaws.{and_i, and-true, and-false, both_ways, either}
 use Rattle.bits.specs.Bit.{joined}
 use Rattle.bits.specs.BitLaws.{digit}
 use Rattle.rows.specs.Size.{present, numbers}
 use Rattle.levels.specs.declared.Order.{Order}
-use Rattle.records.specs.Records.{record_size, BytesLent, root_sign, field, kind, level, read_level, driver, container, marks, first_spare, last_spare, is_task, is_object, is_root, in_another, free_record, task_record, object_record_of, sound_record_of, sound_record}
+use Rattle.records.specs.Records.{BytesLent, root_sign, field, kind, level, read_level, driver, container, marks, first_spare, last_spare, is_task, is_object, is_root, in_another, free_record, task_record, object_record_of, sound_record_of, sound_record}
 use Rattle.records.specs.RecordLaws.{one_of_two, two_of, sound_task, sound_object, sound_else, field_past}
 
 -- the half of the record of x that starts at f: at 0 kind, level, read level and driver, at 4 container, marks and the spare bytes
@@ -139,10 +136,6 @@ below_is k l r n hk hl hr hn =
     rw (e, f, add-mul-mod_self_left, mod-eq_of_lt (u l hl), mod-eq_of_lt (u r hr)) (both_ways _ _
     (λ h. let p = simp and-eq-true_iff at h in simp and-eq-true_iff (omega (arith, eqb-true, lt-ltb)))
     (λ h. let p = simp and-eq-true_iff at h in simp and-eq-true_iff (omega (arith, ltb-true, eq-eqb))))
-
-pub half_below : (bs : List ℕ) (x f : ℕ) → ((i : ℕ) → Fits w8 (get_or bs i 0)) → half bs x f < 0x1_0000_0000
-unfolding half field
-half_below bs x f byte = omega (arith, (byte (record_size * x + f)).fits, (byte (record_size * x + (f + 1))).fits, (byte (record_size * x + (f + 2))).fits, (byte (record_size * x + (f + 3))).fits)
 
 -- ---- an object and its container
 

@@ -15,7 +15,6 @@ ghost use Rattle.records.specs.Records.{
   core_record,
 };
 ghost use Rattle.records.specs.WordLaws.{
-  half,
   word,
   container_fits,
   object_bits,
@@ -30,7 +29,6 @@ ghost use Rattle.records.specs.WordLaws.{
 ghost use Rattle.records.specs.SeenLaws.{seen_fits, Sees};
 ghost use Rattle.records.specs.GroupLaws.{group_size, group_free, groups_free, all_sound, FreeUntil, Gathered, levels_fit};
 
-use bits::join;
 use levels::Order;
 use rows::NUMBERS;
 
@@ -50,6 +48,7 @@ const FOUR_GROUPS: usize = 32;
 const SUMMED: u16 = 0x80;
 
 // Where each field stands in its record. The two spare bytes are zero.
+// By hand: the records are bytes of the lent memory, which C lays out; `field` takes any place.
 pub const KIND: u16 = 0;
 
 pub const LEVEL: u16 = 1;
@@ -67,6 +66,7 @@ const FIRST_SPARE: u16 = 6;
 const LAST_SPARE: u16 = 7;
 
 // The kinds.
+// By hand: a kind is a byte of the lent memory, which may be none of these and is compared as it is read, alone or within its record.
 pub const FREE: u8 = 0;
 
 pub const TASK: u8 = 1;
@@ -77,52 +77,72 @@ pub const OBJECT: u8 = 2;
 pub const ROOT_SIGN: u8 = 255;
 
 // A byte of the record of x, and 0 past the end of the bytes.
+#[tactic(auto, unfolding(crate::specs::Records::field))]
 pub fn field(bytes: &[u8], x: u16, f: u16) -> u8
     ensures { result ≡ model.field bytes.now x f }
 {
     let i = RECORD_SIZE * (x as usize) + (f as usize);
-    if i < bytes.len() { bytes[i] } else { 0 }
+    bytes.get(i).copied().unwrap_or(0)
 }
 
 // A store to it, and none past the end.
+#[tactic(auto, unfolding(crate::specs::Records::set_field))]
 pub fn set_field(bytes: &mut [u8], x: u16, f: u16, v: u8)
     ensures { bytes.new ≡ set_field bytes.old x f v }
 {
     let i = RECORD_SIZE * (x as usize) + (f as usize);
+    // By hand: what is written by `get_mut` of a slice is not known of the slice.
     if i < bytes.len() {
         bytes[i] = v;
     }
 }
 
+// What a record says, but for the spare bytes.
+#[derive(Clone, Copy)]
+pub struct Record {
+    pub kind: u8,
+    pub level: u8,
+    pub read_level: u8,
+    pub driver: u8,
+    pub container: u8,
+    pub marks: u8,
+}
+
+impl Record {
+    // A free number's, all zero.
+    pub const FREE: Record = Record {
+        kind: FREE,
+        level: 0,
+        read_level: 0,
+        driver: 0,
+        container: 0,
+        marks: 0,
+    };
+}
+
 // The whole record of x.
-pub fn set_record(
-    bytes: &mut [u8],
-    x: u16,
-    kind: u8,
-    level: u8,
-    read_level: u8,
-    driver: u8,
-    container: u8,
-    marks: u8,
-)
-    ensures { bytes.new ≡ set_record bytes.old x kind level read_level driver container marks 0 }
+#[tactic(auto, unfolding(crate::specs::Records::set_record))]
+pub fn set_record(bytes: &mut [u8], x: u16, fields: Record)
+    ensures { bytes.new ≡ set_record bytes.old x fields.kind fields.level fields.read_level fields.driver fields.container fields.marks 0 }
 {
-    set_field(bytes, x, KIND, kind);
-    set_field(bytes, x, LEVEL, level);
-    set_field(bytes, x, READ_LEVEL, read_level);
-    set_field(bytes, x, DRIVER, driver);
-    set_field(bytes, x, CONTAINER, container);
-    set_field(bytes, x, MARKS, marks);
+    set_field(bytes, x, KIND, fields.kind);
+    set_field(bytes, x, LEVEL, fields.level);
+    set_field(bytes, x, READ_LEVEL, fields.read_level);
+    set_field(bytes, x, DRIVER, fields.driver);
+    set_field(bytes, x, CONTAINER, fields.container);
+    set_field(bytes, x, MARKS, fields.marks);
     set_field(bytes, x, FIRST_SPARE, 0);
     set_field(bytes, x, LAST_SPARE, 0);
 }
 
+#[tactic(auto, unfolding(crate::specs::Records::is_task))]
 pub fn is_task(bytes: &[u8], x: u16) -> bool
     ensures { result ≡ is_task bytes.now x }
 {
     field(bytes, x, KIND) == TASK
 }
 
+#[tactic(auto, unfolding(crate::specs::Records::is_object))]
 pub fn is_object(bytes: &[u8], x: u16) -> bool
     ensures { result ≡ is_object bytes.now x }
 {
@@ -132,38 +152,80 @@ pub fn is_object(bytes: &[u8], x: u16) -> bool
 pub fn clear_all(bytes: &mut [u8])
     ensures { bytes.new ≡ replicate (length bytes.old) 0 }
 {
-    let mut i = 0;
-    while i < bytes.len() {
-        bytes[i] = 0;
-        i += 1;
-    }
+    bytes.fill(0);
 }
 
 // ---- soundness. A record is read as one number of eight bytes, which the compiler turns into one load.
 
-// The half of the record of x that starts at f.
-fn half(bytes: &[u8], x: usize, f: usize) -> usize
-    requires { BytesLent bytes.now × (x < numbers) × (f ≤ 4) }
-    ensures { result ≡ half bytes.now x f }
-{
-    let i = RECORD_SIZE * x + f;
-    join(bytes[i], bytes[i + 1], bytes[i + 2], bytes[i + 3])
-}
-
 // The whole record of x as one number.
+#[tactic(auto, unfolding(crate::specs::WordLaws::word, crate::specs::WordLaws::half, crate::specs::Records::field))]
 fn word(bytes: &[u8], x: usize) -> usize
     requires { BytesLent bytes.now × (x < numbers) }
     ensures { result ≡ word bytes.now x }
 {
-    half(bytes, x, 0) + half(bytes, x, 4) * 0x1_0000_0000
+    let i = RECORD_SIZE * x;
+    usize::from_le_bytes([
+        bytes[i],
+        bytes[i + 1],
+        bytes[i + 2],
+        bytes[i + 3],
+        bytes[i + 4],
+        bytes[i + 5],
+        bytes[i + 6],
+        bytes[i + 7],
+    ])
 }
 
+#[tactic(auto, unfolding(crate::specs::Records::field))]
 fn kind_at(bytes: &[u8], x: usize) -> u8
     requires { BytesLent bytes.now × (x < numbers) }
     ensures { result ≡ kind bytes.now x }
 {
-    let i = RECORD_SIZE * x;
-    bytes[i]
+    bytes[RECORD_SIZE * x]
+}
+
+// What an object's record shows by itself: level and driver below 0x80, read level 0, marks 0 or 1, spare bytes 0. The compiler
+// joins these tests into one mask and one comparison.
+#[tactic(auto, unfolding(crate::specs::WordLaws::object_bits))]
+fn object_bits(w: usize) -> bool
+    ensures { result ≡ object_bits w }
+{
+    (w / 0x8000 % 2 == 0)
+        & (w / 0x1_0000 % 0x100 == 0)
+        & (w / 0x8000_0000 % 2 == 0)
+        & (w / 0x200_0000_0000 == 0)
+}
+
+// And another's: kind 0 or 1, level and read level below 0x80, driver and container 0, marks 0 to 3, spare bytes 0.
+#[tactic(auto, unfolding(crate::specs::WordLaws::other_bits))]
+fn other_bits(w: usize) -> bool
+    ensures { result ≡ other_bits w }
+{
+    (w / 2 % 0x80 == 0)
+        & (w / 0x8000 % 2 == 0)
+        & (w / 0x80_0000 % 2 == 0)
+        & (w / 0x100_0000 % 0x1_0000 == 0)
+        & (w / 0x400_0000_0000 == 0)
+}
+
+// The number where the kind of the container of x is looked up: a root stands for itself, being an object.
+#[tactic(auto, unfolding(crate::specs::WordLaws::place_of))]
+fn place_of(x: usize, container: usize) -> usize
+    ensures { result ≡ place_of x container }
+{
+    if container == ROOT_SIGN as usize {
+        x
+    } else {
+        container
+    }
+}
+
+// Only a free record may be even, and then it is 0.
+#[tactic(auto, unfolding(crate::specs::WordLaws::if_even))]
+fn if_even(w: usize) -> usize
+    ensures { result ≡ if_even w }
+{
+    if w % 2 == 0 { w } else { 0 }
 }
 
 // What all records passed by have shown, gathered by `or` and by `and`: one test of it at the end is the test of each record, so
@@ -183,150 +245,108 @@ struct Seen {
     unfit: bool,
 }
 
-// What an object's record shows by itself: level and driver below 0x80, read level 0, marks 0 or 1, spare bytes 0. The compiler
-// joins these tests into one mask and one comparison.
-fn object_bits(w: usize) -> bool
-    ensures { result ≡ object_bits w }
-{
-    (w / 0x8000 % 2 == 0)
-        & (w / 0x1_0000 % 0x100 == 0)
-        & (w / 0x8000_0000 % 2 == 0)
-        & (w / 0x200_0000_0000 == 0)
-}
-
-// And another's: kind 0 or 1, level and read level below 0x80, driver and container 0, marks 0 to 3, spare bytes 0.
-fn other_bits(w: usize) -> bool
-    ensures { result ≡ other_bits w }
-{
-    (w / 2 % 0x80 == 0)
-        & (w / 0x8000 % 2 == 0)
-        & (w / 0x80_0000 % 2 == 0)
-        & (w / 0x100_0000 % 0x1_0000 == 0)
-        & (w / 0x400_0000_0000 == 0)
-}
-
-// The number where the kind of the container of x is looked up: a root stands for itself, being an object.
-fn place_of(x: usize, container: usize) -> usize
-    ensures { result ≡ place_of x container }
-{
-    if container == ROOT_SIGN as usize {
-        x
-    } else {
-        container
-    }
-}
-
-// Only a free record may be even, and then it is 0.
-fn if_even(w: usize) -> usize
-    ensures { result ≡ if_even w }
-{
-    if w % 2 == 0 { w } else { 0 }
-}
-
-// After an unfit object nothing else matters.
-fn unfit() -> Seen
-    ensures { result.unfit ≡ true }
-{
-    Seen {
+impl Seen {
+    // Of no record.
+    const NONE: Seen = Seen {
         objects: 0,
         others: 0,
         tripled: 0,
         even: 0,
-        drivers: 0,
-        containers: 0,
+        drivers: 1,
+        containers: 2,
+        unfit: false,
+    };
+
+    // After an unfit object nothing else matters.
+    const UNFIT: Seen = Seen {
         unfit: true,
-    }
-}
+        ..Seen::NONE
+    };
 
-// With the record w of the object x.
-fn with_object(bytes: &[u8], x: usize, w: usize, seen: Seen) -> Seen
-    requires { BytesLent bytes.now × (x < numbers) }
-    ensures { Sees (object_fits bytes.now x w) w seen result }
-{
-    let container = w / 0x1_0000_0000 % 0x100;
-    if x == container {
-        return unfit();
-    }
-    let place = place_of(x, container);
-    if place >= RECORDS {
-        return unfit();
-    }
-    let objects = seen.objects | w;
-    let driver = kind_at(bytes, w / 0x100_0000 % RECORDS);
-    let holder = kind_at(bytes, place);
-    Seen {
-        objects,
-        others: seen.others,
-        tripled: seen.tripled,
-        even: seen.even,
-        drivers: seen.drivers & driver,
-        containers: seen.containers & holder,
-        unfit: seen.unfit,
-    }
-}
-
-// With a record w that is no object's. Marks of 2 are unsound: three times 2 has bit 2, three times 0, 1 and 3 has not.
-fn with_other(w: usize, seen: Seen) -> Seen
-    ensures { Sees (other_fits w) w seen result }
-{
-    let others = seen.others | w;
-    let tripled = seen.tripled | (w / 0x100_0000_0000 * 3);
-    let even = seen.even | if_even(w);
-    Seen {
-        objects: seen.objects,
-        others,
-        tripled,
-        even,
-        drivers: seen.drivers,
-        containers: seen.containers,
-        unfit: seen.unfit,
-    }
-}
-
-// With the record of x, which is an object's where its kind is 2.
-fn with_record(bytes: &[u8], x: usize, seen: Seen) -> Seen
-    requires { BytesLent bytes.now × (x < numbers) }
-    ensures { Sees (word_fits bytes.now x) (word bytes.now x) seen result }
-{
-    let w = word(bytes, x);
-    if w % 0x100 == 2 {
-        with_object(bytes, x, w, seen)
-    } else {
-        with_other(w, seen)
-    }
-}
-
-// With the group from x on. Nothing more is looked at after an unfit object.
-fn with_group(bytes: &[u8], x: usize, seen: Seen) -> Seen
-    requires { BytesLent bytes.now × (x + group_size ≤ numbers) × Gathered bytes.now x seen }
-    ensures { (result.unfit ≡ false → Gathered bytes.now (x + group_size) result) × (result.unfit ≡ true → Gathered bytes.now numbers result) }
-{
-    let mut next = seen;
-    let mut k: usize = 0;
-    while k < GROUP_SIZE {
-        next = with_record(bytes, x + k, next);
-        if next.unfit {
-            return next;
+    // With the record w of the object x.
+    #[tactic(auto, using(crate::specs::SeenLaws::with_object, crate::specs::WordLaws::in_number))]
+    fn with_object(self, bytes: &[u8], x: usize, w: usize) -> Seen
+        requires { BytesLent bytes.now × (x < numbers) }
+        ensures { Sees (object_fits bytes.now x w) w self result }
+    {
+        let container = w / 0x1_0000_0000 % 0x100;
+        if x == container {
+            return Seen::UNFIT;
         }
-        k += 1;
+        let place = place_of(x, container);
+        if place >= RECORDS {
+            return Seen::UNFIT;
+        }
+        let driver = kind_at(bytes, w / 0x100_0000 % RECORDS);
+        let holder = kind_at(bytes, place);
+        Seen {
+            objects: self.objects | w,
+            drivers: self.drivers & driver,
+            containers: self.containers & holder,
+            ..self
+        }
     }
-    next
-}
 
-// What is gathered is what sound records show, but that levels are only known to be below 0x80.
-fn seen_fits(seen: Seen) -> bool
-    ensures { result ≡ seen_fits seen }
-{
-    let kept = !seen.unfit;
-    kept & object_bits(seen.objects)
-        & other_bits(seen.others)
-        & (seen.tripled / 4 % 2 == 0)
-        & (seen.even == 0)
-        & (seen.drivers % 2 == 1)
-        & (seen.containers / 2 % 2 == 1)
+    // With a record w that is no object's. Marks of 2 are unsound: three times 2 has bit 2, three times 0, 1 and 3 has not.
+    #[tactic(auto, using(crate::specs::SeenLaws::with_other))]
+    fn with_other(self, w: usize) -> Seen
+        ensures { Sees (other_fits w) w self result }
+    {
+        Seen {
+            others: self.others | w,
+            tripled: self.tripled | (w / 0x100_0000_0000 * 3),
+            even: self.even | if_even(w),
+            ..self
+        }
+    }
+
+    // With the record of x, which is an object's where its kind is 2.
+    #[tactic(auto, unfolding(crate::specs::WordLaws::word_fits))]
+    fn with_record(self, bytes: &[u8], x: usize) -> Seen
+        requires { BytesLent bytes.now × (x < numbers) }
+        ensures { Sees (word_fits bytes.now x) (word bytes.now x) self result }
+    {
+        let w = word(bytes, x);
+        if w % 0x100 == 2 {
+            self.with_object(bytes, x, w)
+        } else {
+            self.with_other(w)
+        }
+    }
+
+    // With the group from x on. Nothing more is looked at after an unfit object.
+    #[tactic(auto, using(crate::specs::GroupLaws::gathered_step, crate::specs::GroupLaws::gathered_unfit))]
+    fn with_group(self, bytes: &[u8], x: usize) -> Seen
+        requires { BytesLent bytes.now × (x + group_size ≤ numbers) × Gathered bytes.now x self }
+        ensures { (result.unfit ≡ false → Gathered bytes.now (x + group_size) result) × (result.unfit ≡ true → Gathered bytes.now numbers result) }
+    {
+        let mut next = self;
+        for y in x..x + GROUP_SIZE {
+            next = next.with_record(bytes, y);
+            if next.unfit {
+                break;
+            }
+        }
+        next
+    }
+
+    // What is gathered is what sound records show, but that levels are only known to be below 0x80.
+    #[tactic(auto, unfolding(crate::specs::SeenLaws::seen_fits, crate::specs::WordLaws::not_two))]
+    fn fits(self) -> bool
+        ensures { result ≡ seen_fits self }
+    {
+        !self.unfit
+            & object_bits(self.objects)
+            & other_bits(self.others)
+            & (self.tripled / 4 % 2 == 0)
+            & (self.even == 0)
+            & (self.drivers % 2 == 1)
+            & (self.containers / 2 % 2 == 1)
+    }
 }
 
 // The level and the read level of w are below the count.
+#[tactic(auto, unfolding(crate::specs::WordLaws::low))]
 fn levels_low(w: usize, count: usize) -> bool
     ensures { result ≡ low count w }
 {
@@ -334,6 +354,7 @@ fn levels_low(w: usize, count: usize) -> bool
 }
 
 // Number 0 is a task at the top level.
+#[tactic(auto, unfolding(crate::specs::Records::core_record))]
 fn core_sound(bytes: &[u8], order: Order) -> bool
     ensures { result ≡ core_record order bytes.now }
 {
@@ -345,11 +366,9 @@ fn group_free(bytes: &[u8], x: usize) -> bool
     requires { BytesLent bytes.now × (x + group_size ≤ numbers) }
     ensures { result ≡ group_free bytes.now x }
 {
-    let mut any: usize = 0;
-    let mut k: usize = 0;
-    while k < GROUP_SIZE {
-        any = any | word(bytes, x + k);
-        k += 1;
+    let mut any = 0;
+    for k in 0..GROUP_SIZE {
+        any |= word(bytes, x + k);
     }
     any == 0
 }
@@ -361,16 +380,15 @@ fn levels_fit(bytes: &[u8], count: usize) -> bool
     ensures { result ≡ levels_fit count bytes.now }
 {
     let rise = (0x80 - count) * 0x1_0100;
-    let mut any: usize = 0;
-    let mut x: usize = 0;
-    while x < RECORDS {
-        any = any | (word(bytes, x) % 0x100_0000 + rise);
-        x += 1;
+    let mut any = 0;
+    for x in 0..RECORDS {
+        any |= word(bytes, x) % 0x100_0000 + rise;
     }
     (any / 0x8000 % 2 == 0) & (any / 0x80_0000 % 2 == 0)
 }
 
 // The four groups from x on are free: one test for 32 records.
+#[tactic(auto, unfolding(crate::specs::GroupLaws::groups_free))]
 fn groups_free(bytes: &[u8], x: usize) -> bool
     requires { BytesLent bytes.now × (x + 32 ≤ numbers) }
     ensures { result ≡ groups_free bytes.now x }
@@ -387,10 +405,8 @@ fn free_until(bytes: &[u8], from: usize) -> usize
     ensures { FreeUntil bytes.now from result }
 {
     let mut x = from;
-    while x + FOUR_GROUPS <= RECORDS {
-        if !groups_free(bytes, x) {
-            return x;
-        }
+    // By hand: the number that the last step reached is wanted.
+    while x + FOUR_GROUPS <= RECORDS && groups_free(bytes, x) {
         x += FOUR_GROUPS;
     }
     x
@@ -401,26 +417,17 @@ fn gather(bytes: &[u8]) -> Seen
     requires { BytesLent bytes.now }
     ensures { Gathered bytes.now numbers result }
 {
-    let mut seen = Seen {
-        objects: 0,
-        others: 0,
-        tripled: 0,
-        even: 0,
-        drivers: 1,
-        containers: 2,
-        unfit: false,
-    };
-    let mut x: usize = 0;
+    let mut seen = Seen::NONE;
+    let mut x = 0;
+    // By hand: free groups are jumped over, up to the number that `free_until` finds.
     while x < RECORDS {
-        if word(bytes, x) == 0 {
-            if group_free(bytes, x) {
-                x = free_until(bytes, x + GROUP_SIZE);
-                continue;
-            }
+        if word(bytes, x) == 0 && group_free(bytes, x) {
+            x = free_until(bytes, x + GROUP_SIZE);
+            continue;
         }
-        seen = with_group(bytes, x, seen);
+        seen = seen.with_group(bytes, x);
         if seen.unfit {
-            return seen;
+            break;
         }
         x += GROUP_SIZE;
     }
@@ -433,39 +440,26 @@ fn records_sound(bytes: &[u8], order: Order) -> bool
     ensures { result ≡ all_sound order bytes.now numbers }
 {
     let seen = gather(bytes);
-    let objects = seen.objects;
-    let others = seen.others;
-    if !seen_fits(seen) {
-        return false;
-    }
     let count = order.count as usize;
-    if levels_low(objects, count) & levels_low(others, count) {
-        return true;
-    }
-    levels_fit(bytes, count)
+    seen.fits()
+        && (levels_low(seen.objects, count) & levels_low(seen.others, count)
+            || levels_fit(bytes, count))
 }
 
 // ---- the same without sums, for an order of no level or of more than the sums can test
 
 // An object's container is the root sign or another object.
+#[tactic(auto, unfolding(crate::specs::WordLaws::container_fits, crate::specs::Records::is_object))]
 fn container_sound(bytes: &[u8], x: usize, container: usize) -> bool
     requires { BytesLent bytes.now }
     ensures { result ≡ container_fits bytes.now x container }
 {
-    if container == ROOT_SIGN as usize {
-        return true;
-    }
-    if container == x {
-        return false;
-    }
-    if container < RECORDS {
-        kind_at(bytes, container) == OBJECT
-    } else {
-        false
-    }
+    container == ROOT_SIGN as usize
+        || (container < RECORDS && kind_at(bytes, container) == OBJECT && container != x)
 }
 
 // The record of x is sound, field by field. The spare bytes stand above the marks.
+#[tactic(auto, using(crate::specs::WordLaws::plain_record), unfolding(crate::specs::WordLaws::plain_sound))]
 fn plain_record(bytes: &[u8], order: Order, x: usize) -> bool
     requires { BytesLent bytes.now × (x < numbers) }
     ensures { result ≡ sound_record order bytes.now x }
@@ -496,26 +490,17 @@ fn plain_records(bytes: &[u8], order: Order) -> bool
     requires { BytesLent bytes.now }
     ensures { result ≡ all_sound order bytes.now numbers }
 {
-    let mut x: usize = 0;
-    while x < RECORDS {
-        if !plain_record(bytes, order, x) {
-            return false;
-        }
-        x += 1;
-    }
-    true
+    (0..RECORDS).all(|x| plain_record(bytes, order, x))
 }
 
+#[tactic(auto, unfolding(crate::specs::Records::sound_of))]
 fn sound_under(bytes: &[u8], order: Order) -> bool
     ensures { result ≡ model.sound order bytes.now }
 {
-    if bytes.len() != BYTES {
+    if bytes.len() != BYTES || !core_sound(bytes, order) {
         return false;
     }
-    if !core_sound(bytes, order) {
-        return false;
-    }
-    if (order.count > 0) & (order.count < SUMMED) {
+    if 0 < order.count && order.count < SUMMED {
         records_sound(bytes, order)
     } else {
         plain_records(bytes, order)
@@ -523,6 +508,7 @@ fn sound_under(bytes: &[u8], order: Order) -> bool
 }
 
 // The bytes are sound under an order of so many levels and that top. Its rows play no part, so it is not copied for the test.
+#[tactic(auto, unfolding(crate::specs::Records::sound_of, crate::specs::Records::core_record, crate::specs::Records::sound_record_of, crate::specs::Records::task_record, crate::specs::Records::object_record_of))]
 pub fn sound(bytes: &[u8], count: u16, top: u16) -> bool
     ensures { (rows : List ℕ) → result ≡ model.sound (record { rows = rows; count = count; top = top }) bytes.now }
 {

@@ -1,13 +1,10 @@
 -- Laws of sets: those of words and of rows, at the words that a set has.
 -- Assumes nothing.
-use Rattle.std.specs.Prelude.{◌≡◌, refl, Bool, true, not, cond, ◌&&◌, ◌||◌, ℕ, ◌+◌, ◌-◌, ◌*◌, ◌/◌, ◌%◌, ◌^◌, ◌≤◌, ◌<◌, eqb, set}
-use Rattle.std.proofs.Common.{sym, ap₂, ◌∙◌, add-zero, arith, leb-true}
-use Rattle.std.proofs.Math.Path.{ap}
-use Rattle.std.proofs.Math.Bool.{false, and-eq-true_iff}
-use mathlib.Core.List.{List, [], ◌∷◌}
-use Rattle.std.specs.Int.Bits.{bit_and, bit_or, and_lt}
+use Rattle.std.specs.Prelude.{◌≡◌, refl, Bool, true, false, not, cond, ◌&&◌, ◌||◌, List, [], ◌∷◌, get_or, set, ℕ, ◌+◌, ◌-◌, ◌*◌, ◌/◌, ◌%◌, ◌^◌, ◌≤◌, ◌<◌, eqb, bit_and, bit_or}
+use Rattle.std.specs.Int.Bits.{and_lt}
+use Rattle.std.proofs.Common.{sym, ap, ap₂, ◌∙◌, add-zero, arith, leb-true}
+use Rattle.std.proofs.Math.Bool.{and-eq-true_iff}
 use Rattle.std.proofs.lemmas.Nat.{or_lt}
-use Rattle.std.proofs.Math.ListN.{get_or}
 use Rattle.std.proofs.Math.Pow.{pow-lt, ones_sub-lt}
 use Rattle.bits.specs.Bit.{bit, word_of, in_words, words_of, words_by}
 use Rattle.bits.specs.BitLaws.{bit_below, bit_ext, bit_and_law, bit_or_law, bit_not, bit_one, word_is}

@@ -11,6 +11,9 @@ ghost use Rattle.rows.specs.Size.{row_size, numbers};
 ghost use Rattle.records.specs.Records.{record_size, BytesLent, field};
 ghost use Rattle.sets.specs.Sets.{last, Within, has, set_of, in_word, joined, TableLent};
 
+use records::RECORD_SIZE;
+use rows::ROW_WORDS;
+
 // Number x is bit x of the low word, or bit x - 64 of the high one.
 #[derive(Clone, Copy)]
 pub struct Set {
@@ -24,10 +27,8 @@ fn eight_with(bytes: &[u8], first: u8, f: usize) -> u64
     ensures { result ≡ low_word (λ i. not (eqb (field bytes.now (first + i) f) 0)) 8 }
 {
     let mut w: u64 = 0;
-    let mut i: u8 = 8;
-    while i > 0 {
-        i -= 1;
-        w = 2 * w + ((bytes[records::RECORD_SIZE * ((first + i) as usize) + f] != 0) as u64);
+    for i in (0..8).rev() {
+        w = 2 * w + ((bytes[RECORD_SIZE * ((first + i) as usize) + f] != 0) as u64);
     }
     w
 }
@@ -38,15 +39,14 @@ fn word_with(bytes: &[u8], first: u8, f: usize) -> u64
     ensures { result ≡ word_of (λ i. not (eqb (field bytes.now (first + i) f) 0)) }
 {
     let mut w: u64 = 0;
-    let mut g: u8 = 0;
-    while g < 8 {
-        w = w | (eight_with(bytes, first + 8 * g, f) << (8 * g));
-        g += 1;
+    for g in 0..8 {
+        w |= eight_with(bytes, first + 8 * g, f) << (8 * g);
     }
     w
 }
 
 // The numbers whose byte f is not zero.
+#[tactic(auto, using(crate::specs::SetLaws::set_pair))]
 pub fn with_field(bytes: &[u8], f: usize) -> Set
     requires { BytesLent bytes.now × (f < record_size) }
     ensures { result ≡ set_of (λ x. not (eqb (field bytes.now x f) 0)) }
@@ -57,33 +57,37 @@ pub fn with_field(bytes: &[u8], f: usize) -> Set
     }
 }
 
+// Two sets together, word by word.
+fn by_words<F: Fn(u64, u64) -> u64>(a: Set, b: Set, join: F) -> Set
+    requires { F.IsAlwaysCallable join }
+    ensures low { F.post join a.low b.low result.low }
+    ensures high { F.post join a.high b.high result.high }
+{
+    Set {
+        low: join(a.low, b.low),
+        high: join(a.high, b.high),
+    }
+}
+
 pub fn union(a: Set, b: Set) -> Set
     ensures { result ≡ set_of (λ x. has a x || has b x) }
 {
-    Set {
-        low: a.low | b.low,
-        high: a.high | b.high,
-    }
+    by_words(a, b, |x, y| x | y)
 }
 
 pub fn common(a: Set, b: Set) -> Set
     ensures { result ≡ set_of (λ x. has a x && has b x) }
 {
-    Set {
-        low: a.low & b.low,
-        high: a.high & b.high,
-    }
+    by_words(a, b, |x, y| x & y)
 }
 
 pub fn without(a: Set, b: Set) -> Set
     ensures { result ≡ set_of (λ x. has a x && not (has b x)) }
 {
-    Set {
-        low: a.low & !b.low,
-        high: a.high & !b.high,
-    }
+    by_words(a, b, |x, y| x & !y)
 }
 
+#[tactic(auto, using(crate::specs::SetLaws::empty_is, crate::specs::SetLaws::fits))]
 pub fn is_empty(a: Set) -> bool
     ensures { result ≡ not (any_b numbers (has a)) }
 {
@@ -108,15 +112,12 @@ fn join_word(words: &[u64], word: u64, first: u8, onto: Set) -> Set
     let mut missed = !onto.high;
     let mut rest = word;
     while rest != 0 {
-        let start = rows::ROW_WORDS * (lowest_number(rest, first) as usize);
-        low = low | words[start];
-        missed = missed & !words[start + 1];
-        rest = rest & (rest - 1);
+        let start = ROW_WORDS * (lowest_number(rest, first) as usize);
+        low |= words[start];
+        missed &= !words[start + 1];
+        rest &= rest - 1;
     }
-    Set {
-        low: low,
-        high: !missed,
-    }
+    Set { low, high: !missed }
 }
 
 // The rows of a set's numbers together.
@@ -144,6 +145,7 @@ fn only(x: u16) -> Set
 }
 
 // A set without one number.
+#[tactic(auto, using(crate::specs::SetLaws::in_set, crate::specs::SetLaws::set_ext))]
 pub fn but(a: Set, x: u16) -> Set
     requires { x < numbers }
     ensures { result ≡ set_of (λ y. has a y && not (eqb y x)) }
@@ -156,7 +158,7 @@ pub fn row(words: &[u64], x: u16) -> Set
     requires { TableLent words.now × (x < numbers) }
     ensures { result ≡ set_of (λ y. cell row_size words.now x y) }
 {
-    let start = rows::ROW_WORDS * (x as usize);
+    let start = ROW_WORDS * (x as usize);
     Set {
         low: words[start],
         high: words[start + 1],
@@ -164,11 +166,12 @@ pub fn row(words: &[u64], x: u16) -> Set
 }
 
 // A set is joined to row x of a table.
+#[tactic(auto, using(crate::specs::SetLaws::join_is, crate::specs::SetLaws::fits))]
 pub fn join_row(words: &mut [u64], x: u16, set: Set)
     requires { TableLent words.old × (x < numbers) }
     ensures { words.new ≡ join_row row_size x (has set) words.old }
 {
-    let start = rows::ROW_WORDS * (x as usize);
-    words[start] = words[start] | set.low;
-    words[start + 1] = words[start + 1] | set.high;
+    let start = ROW_WORDS * (x as usize);
+    words[start] |= set.low;
+    words[start + 1] |= set.high;
 }

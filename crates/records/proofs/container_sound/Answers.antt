@@ -1,23 +1,18 @@
-use Rattle.std.proofs.Common.{eq-eqb, ne_eqb}
-use Rattle.bits.specs.AllLaws.{and-false, and-true}
+use Rattle.std.proofs.Common.{sym, ◌∙◌, ne_eqb}
 use Rattle.rows.specs.Size.{present}
 use Rattle.records.specs.Records.{is_object}
 use Rattle.records.specs.RecordLaws.{field_past}
 use Rattle.records.specs.WordLaws.{container_fits}
 use Rattle.records.proofs.container_sound.Goals as goal
+use Rattle.records.proofs.container_sound.Goals.{then-container-lt-RECORDS, else-container-lt-RECORDS}
 
-pub returns-then-container : goal.returns-then-container
-unfolding container_fits
-returns-then-container c = rw c.if-container.true
-
-pub returns-then-container-x : goal.returns-then-container-x
-unfolding container_fits
-returns-then-container-x c = simp (ne_eqb _ _ c.if-container.false, eq-eqb _ _ c.if-container-x.true, and-false)
-
-pub returns-then-container-lt-RECORDS : goal.returns-then-container-lt-RECORDS
+pub returns-else-kind_at-eq-OBJECT : goal.returns-else-kind_at-eq-OBJECT
 unfolding container_fits is_object
-returns-then-container-lt-RECORDS c = simp (ne_eqb _ _ c.if-container.false, ne_eqb _ _ c.if-container-x.false, c.kind_at.ensures, and-true)
-
-pub returns-else-container-lt-RECORDS : goal.returns-else-container-lt-RECORDS
-unfolding container_fits is_object
-returns-else-container-lt-RECORDS c = simp (ne_eqb _ _ c.if-container.false, field_past present c.args.bytes.now _ 0 c.requires c.if-container-lt-RECORDS.false)
+returns-else-kind_at-eq-OBJECT c =
+    let no_root = ne_eqb _ _ c.if-container.false in
+    let f = c.if-kind_at-eq-OBJECT.false in
+    f
+    ∙ elim c.if-container-lt-RECORDS.branch [
+      | then-container-lt-RECORDS w ↦ simp (no_root, sym w.kind_at.ensures, sym w.value-is ∙ f)
+      | else-container-lt-RECORDS w ↦ simp (no_root, field_past present c.args.bytes.now _ 0 c.requires w.if-container-lt-RECORDS.false)
+    ]

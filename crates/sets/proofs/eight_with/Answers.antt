@@ -1,6 +1,4 @@
--- Before each turn the word has the tests from i on.
--- Assumes nothing.
-use Rattle.std.proofs.Common.{◌≡◌, refl, ap, ◌∙◌, Bool, not, List, ℕ, suc, ◌+◌, ◌-◌, ◌*◌, ◌^◌, ◌≤◌, ◌<◌, eqb, arith, rules}
+use Rattle.std.proofs.Common.{◌≡◌, refl, ap, ◌∙◌, Bool, not, List, ℕ, suc, ◌+◌, ◌-◌, ◌*◌, ◌^◌, ◌≤◌, ◌<◌, eqb, arith}
 use Rattle.std.proofs.Math.Pow.{pow_mono}
 use mir.Val.{bool_byte}
 use Rattle.bits.specs.BitLaws.{low_word, low_lt}
@@ -26,21 +24,21 @@ small p w i some few h =
 
 pub loop-i-init : goal.loop-i-init
 unfolding low_word Rattle.bits.specs.All.up_to
-loop-i-init c = (search rules, refl)
+loop-i-init c = refl
 
 pub overflow_mul-w : goal.overflow_mul-w
 overflow_mul-w c =
     let l = c.loop-i in
-    omega (arith, small (test c.args.bytes.now c.args.first c.args.f) l.w l.i (omega arith) (omega arith) l.invariant.1)
+    omega (arith, small (test c.args.bytes.now c.args.first c.args.f) l.w l.i (omega arith) (omega arith) l.invariant)
 
 pub overflow_add-w-in-loop-i-2 : goal.overflow_add-w-in-loop-i-2
 unfolding field
 overflow_add-w-in-loop-i-2 c =
     let l = c.loop-i in
-    omega (arith, small (test c.args.bytes.now c.args.first c.args.f) l.w l.i (omega arith) (omega arith) l.invariant.1)
+    omega (arith, small (test c.args.bytes.now c.args.first c.args.f) l.w l.i (omega arith) (omega arith) l.invariant)
 
 pub loop-i-preserved : goal.loop-i-preserved
 unfolding field
 loop-i-preserved c =
     let l = c.loop-i in
-    (omega arith, next (test c.args.bytes.now c.args.first c.args.f) l.w l.i (omega arith) (omega arith) l.invariant.1)
+    next (test c.args.bytes.now c.args.first c.args.f) l.w l.i (omega arith) (omega arith) l.invariant
