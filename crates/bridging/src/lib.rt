@@ -39,14 +39,15 @@ pub fn feeds_unmarked(bytes: &[u8], words: &[u64], x: u16) -> bool
     !sets::is_empty(sets::without(fed_by(bytes, words, x), marked))
 }
 
-// p feeds the object x, whose driver is d: a thing in use, other than x, that has a flow to it or drives it.
-fn is_feeder(bytes: &[u8], words: &[u64], x: u16, d: u16, p: u16) -> bool
-    requires { BytesLent bytes.now × WordsLent words.now × (x < numbers) × (p < numbers) × (is_object bytes.now x ≡ true) × (d ≡ driver bytes.now x) }
+// p feeds the object x: a thing in use, other than x, that has a flow to it or drives it.
+fn is_feeder(bytes: &[u8], words: &[u64], x: u16, p: u16) -> bool
+    requires { BytesLent bytes.now × WordsLent words.now × (x < numbers) × (p < numbers) × (is_object bytes.now x ≡ true) }
     ensures { result ≡ feeder (memory bytes.now words.now) x p }
 {
     let used = bytes[RECORD_SIZE * (p as usize) + (KIND as usize)] != FREE;
     let w = words[ROW_WORDS * (p as usize) + (x as usize) / 64];
-    used & (p != x) & (bits::has_bit(w, (x as usize) % 64) | (d == p))
+    let driver = bytes[RECORD_SIZE * (x as usize) + (DRIVER as usize)];
+    used & (p != x) & (bits::has_bit(w, (x as usize) % 64) | (driver as u16 == p))
 }
 
 // What fed the object x, and its driver, is recorded as feeding what x fed. Nothing is bridged where x fed nothing.
@@ -59,12 +60,9 @@ pub fn bridge(bytes: &[u8], words: &mut [u64], x: u16)
     if sets::is_empty(fed) {
         return;
     }
-    let d = records::field(bytes, x, DRIVER) as u16;
-    let mut p: u16 = 0;
-    while p < NUMBERS {
-        if is_feeder(bytes, words, x, d, p) {
+    for p in 0..NUMBERS {
+        if is_feeder(bytes, words, x, p) {
             sets::join_row(words, p, sets::but(fed, p));
         }
-        p += 1;
     }
 }

@@ -6,4 +6,4 @@ use Rattle.bridging.proofs.is_feeder.Goals as goal
 
 pub returns : goal.returns
 unfolding feeder in_use has_flow object_of object field cell
-returns c = rw (c.has_bit.ensures, c.requires.4, c.requires.5)
+returns c = rw (c.has_bit.ensures, c.requires.4)
