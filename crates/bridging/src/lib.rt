@@ -3,7 +3,7 @@
 
 ghost use Rattle.std.specs.Prelude.{◌≡◌, true, ◌<◌};
 ghost use Rattle.rows.specs.Size.{numbers, WordsLent};
-ghost use Rattle.records.specs.Records.{BytesLent, driver, is_object};
+ghost use Rattle.records.specs.Records.{BytesLent, driver as driver_byte, is_object};
 ghost use Rattle.sets.specs.Sets.{set_of};
 ghost use Rattle.model.specs.State.{memory};
 ghost use Rattle.model.specs.Effects as model;
@@ -39,14 +39,29 @@ pub fn feeds_unmarked(bytes: &[u8], words: &[u64], x: u16) -> bool
     !sets::is_empty(sets::without(fed_by(bytes, words, x), marked))
 }
 
-// p feeds the object x, whose driver is d: a thing in use, other than x, that has a flow to it or drives it.
-fn is_feeder(bytes: &[u8], words: &[u64], x: u16, d: u16, p: u16) -> bool
-    requires { BytesLent bytes.now × WordsLent words.now × (x < numbers) × (p < numbers) × (is_object bytes.now x ≡ true) × (d ≡ driver bytes.now x) }
-    ensures { result ≡ feeder (memory bytes.now words.now) x p }
-{
-    let used = bytes[RECORD_SIZE * (p as usize) + (KIND as usize)] != FREE;
-    let w = words[ROW_WORDS * (p as usize) + (x as usize) / 64];
-    used & (p != x) & (bits::has_bit(w, (x as usize) % 64) | (d == p))
+// An object that is to go. Its driver is read once, and not again for each row.
+#[derive(Drop)]
+struct Going<'a> {
+    bytes: &'a [u8],
+    x: u16,
+    driver: u16,
+    ghost lent: { BytesLent bytes.now },
+    ghost within: { x < numbers },
+    ghost object: { is_object bytes.now x ≡ true },
+    ghost drives: { driver ≡ driver_byte bytes.now x },
+}
+
+impl Going<'_> {
+    // p feeds it: a thing in use, other than it, that has a flow to it or drives it.
+    fn is_fed_by(&self, words: &[u64], p: u16) -> bool
+        requires { WordsLent words.now × (p < numbers) }
+        ensures { result ≡ feeder (memory self.now.bytes.now words.now) self.now.x p }
+    {
+        let x = self.x;
+        let used = self.bytes[RECORD_SIZE * (p as usize) + (KIND as usize)] != FREE;
+        let w = words[ROW_WORDS * (p as usize) + (x as usize) / 64];
+        used & (p != x) & (bits::has_bit(w, (x as usize) % 64) | (self.driver == p))
+    }
 }
 
 // What fed the object x, and its driver, is recorded as feeding what x fed. Nothing is bridged where x fed nothing.
@@ -59,12 +74,11 @@ pub fn bridge(bytes: &[u8], words: &mut [u64], x: u16)
     if sets::is_empty(fed) {
         return;
     }
-    let d = records::field(bytes, x, DRIVER) as u16;
-    let mut p: u16 = 0;
-    while p < NUMBERS {
-        if is_feeder(bytes, words, x, d, p) {
+    let driver = records::field(bytes, x, DRIVER) as u16;
+    let going = Going { bytes, x, driver };
+    for p in 0..NUMBERS {
+        if going.is_fed_by(words, p) {
             sets::join_row(words, p, sets::but(fed, p));
         }
-        p += 1;
     }
 }

@@ -16,8 +16,7 @@ pub fn lies_inside(bytes: &[u8], x: u16, y: u16) -> bool
     ensures { result ≡ bytes_inside bytes.now x y }
 {
     let mut at = x;
-    let mut left = MOST_STEPS;
-    while left > 0 {
+    for _ in 0..MOST_STEPS {
         let container = records::field(bytes, at, CONTAINER);
         at = container as u16;
         if at == y {
@@ -26,7 +25,6 @@ pub fn lies_inside(bytes: &[u8], x: u16, y: u16) -> bool
         if container == ROOT_SIGN {
             return false;
         }
-        left -= 1;
     }
     false
 }
