@@ -23,7 +23,7 @@ ghost use Rattle.calls.specs.Ends.{ended, Performs, Loads};
 
 use creation::{create, create_root, execute};
 use events::{delete, move_object};
-use layout::Text;
+use layout::Fault;
 use levels::Order;
 use model::{Answer, Call, NO_WORD};
 use table::Engine;
@@ -279,9 +279,9 @@ fn load(bytes: &mut [u8], words: &mut [u64], order: Order, engine: Engine, text:
         return begun;
     }
     match layout::check(text) {
-        Text::Fits => make(bytes, words, order, engine, text),
-        Text::Broken { at: _ } => model::FORM,
-        Text::Deep { at: _ } => model::DEEP,
+        Ok(()) => make(bytes, words, order, engine, text),
+        Err(Fault::Broken { .. }) => model::FORM,
+        Err(Fault::Deep { .. }) => model::DEEP,
     }
 }
 

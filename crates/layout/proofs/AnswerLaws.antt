@@ -1,15 +1,14 @@
 -- What the answers to objects, forms and what follows them tell of a reading, and the answers that a reading comes to.
 -- Assumes nothing.
-use Rattle.std.specs.Prelude.{◌≡◌, refl, Bool, true, false, ◌||◌, List, [], ◌∷◌, ℕ, ◌+◌, ◌-◌, ◌≤◌, ◌<◌, max, ltb, eqb, length, get_or, drop}
-use Rattle.std.proofs.Common.{sym, ap, ◌∙◌, arith, drop-drop, lt-ltb, le-ltb, ltb-true, ltb-false}
-use Rattle.layout.specs.Layout.{Object, Objects, none, object, depth_of, Form, root, task, form_depth, most_deep, line_feed, closing, inner_text, object_text, form_text}
+use Rattle.std.specs.Prelude.{◌≡◌, refl, Bool, true, false, ◌||◌, Result, Ok, Err, List, [], ◌∷◌, ℕ, ◌+◌, ◌-◌, ◌≤◌, ◌<◌, max, ltb, eqb, length, get_or, drop}
+use Rattle.std.proofs.Common.{ap, ◌∙◌, arith, drop-drop, lt-ltb, le-ltb, ltb-true, ltb-false}
+use Rattle.layout.specs.Layout.{Object, Task, Objects, none, object, depth_of, Form, root, task, form_depth, most_deep, line_feed, closing, inner_text, object_text, form_text}
 use Rattle.layout.specs.Reading.{Reading, found, lost, after, head, task_at, object_at, objects_at, form_at}
-use Rattle.layout.specs.Answers.{stands_at, left_answer, task_answer, nest_answer, object_answer, objects_answer, form_answer}
+use Rattle.layout.specs.Answers.{stands_at, answer, nest_answer, object_answer, objects_answer, form_answer}
 use Rattle.layout.proofs.PlaceLaws.{ends, Tail, tail_then, tail_cons, tail_head, tail_task, rest_in, Goes, goes, Leaves, stands, stands_expected, stands_not, task_got}
 use Rattle.layout.proofs.ReadingLaws.{object_sound, objects_sound, object_less, objects_less, object_is, objects_more, objects_stop, form_read, form_less}
-use Rattle.layout.specs.declared.Answer.{Answer}
-use Rattle.layout.specs.declared.Answer.TheVariants.{Read, Unread}
-use Rattle.layout.specs.declared.fields.Running.TheVariants.{Runs}
+use Rattle.layout.specs.declared.fields.Found.{Found}
+use Rattle.layout.specs.declared.fields.Lost.{Lost}
 
 -- ---- what is left after objects and forms
 
@@ -37,49 +36,46 @@ past l u at e r a t s p x = record { goes_on = goes l (drop at l) u at e r a a r
 
 -- ---- what an answer tells
 
-pub objects_got : (level : ℕ) (l : List ℕ) (at e : ℕ) (d : Bool) → objects_answer level (length l) (objects_at (drop at l)) ≡ Read e d → (fs : Objects) × Goes l at (objects_at (drop at l)) fs e × (ltb most_deep (level + depth_of fs) ≡ d)
+pub objects_got : (level : ℕ) (l : List ℕ) (at : ℕ) (f : Found Bool) → objects_answer level (length l) (objects_at (drop at l)) ≡ Ok f
+    → (fs : Objects) × Goes l at (objects_at (drop at l)) fs f.end × (ltb most_deep (level + depth_of fs) ≡ f.value)
 unfolding objects_answer
-objects_got level l at e d h = go (objects_at (drop at l)) refl h
+objects_got level l at f h = go (objects_at (drop at l)) refl h
   where
-    go : (r : Reading Objects) → objects_at (drop at l) ≡ r → objects_answer level (length l) r ≡ Read e d → (fs : Objects) × Goes l at (objects_at (drop at l)) fs e × (ltb most_deep (level + depth_of fs) ≡ d)
-    go (found fs u) p q = (fs, goes l (inner_text fs u) u at e (objects_at (drop at l)) fs fs (objects_sound _ (drop at l) fs u p).text (tail_inner fs u) (rw (← (objects_sound _ (drop at l) fs u p).text) (objects_less _ (drop at l) fs u p)) p refl (cc), cc)
-    go (lost u) p q = let z : ◌≡◌ {A = ℕ} 0 1 = cc in absurd (omega arith)
+    go : (r : Reading Objects) → objects_at (drop at l) ≡ r → objects_answer level (length l) r ≡ Ok f → (fs : Objects) × Goes l at (objects_at (drop at l)) fs f.end × (ltb most_deep (level + depth_of fs) ≡ f.value)
+    go (found fs u) p q = (fs, goes l (inner_text fs u) u at f.end (objects_at (drop at l)) fs fs (objects_sound _ (drop at l) fs u p).text (tail_inner fs u) (rw (← (objects_sound _ (drop at l) fs u p).text) (objects_less _ (drop at l) fs u p)) p refl (cc), cc)
+    go (lost u) p q = absurd (cc)
 
-pub objects_lost : (level n : ℕ) (r : Reading Objects) (e : ℕ) → objects_answer level n r ≡ Unread e → Leaves n r e
+pub objects_lost : (level n : ℕ) (r : Reading Objects) (x : Lost) → objects_answer level n r ≡ Err x → Leaves n r x.at
 unfolding objects_answer
-objects_lost level n (found a u) e q = let z : ◌≡◌ {A = ℕ} 0 1 = cc in absurd (omega arith)
-objects_lost level n (lost u) e q = record { rest = u; is = refl; place = cc }
+objects_lost level n (found a u) x q = absurd (cc)
+objects_lost level n (lost u) x q = record { rest = u; is = refl; place = cc }
 
-pub object_got : (level : ℕ) (l : List ℕ) (at e : ℕ) (d : Bool) → object_answer level (length l) (object_at (drop at l)) ≡ Read e d → (f : Object × Objects) × Past l at (object_at (drop at l)) f e × (ltb most_deep (level + depth_of f.1) ≡ d)
+pub object_got : (level : ℕ) (l : List ℕ) (at : ℕ) (f : Found Bool) → object_answer level (length l) (object_at (drop at l)) ≡ Ok f
+    → (o : Object × Objects) × Past l at (object_at (drop at l)) o f.end × (ltb most_deep (level + depth_of o.1) ≡ f.value)
 unfolding object_answer
-object_got level l at e d h = go (object_at (drop at l)) refl h
+object_got level l at f h = go (object_at (drop at l)) refl h
   where
-    go : (r : Reading (Object × Objects)) → object_at (drop at l) ≡ r → object_answer level (length l) r ≡ Read e d → (f : Object × Objects) × Past l at (object_at (drop at l)) f e × (ltb most_deep (level + depth_of f.1) ≡ d)
-    go (found f u) p q = (f, past l u at e (object_at (drop at l)) f (rw (object_sound _ (drop at l) f u p).text (tail_object f.0 f.1 u)) (object_less _ (drop at l) f u p) p (cc), cc)
-    go (lost u) p q = let z : ◌≡◌ {A = ℕ} 0 1 = cc in absurd (omega arith)
+    go : (r : Reading (Object × Objects)) → object_at (drop at l) ≡ r → object_answer level (length l) r ≡ Ok f → (o : Object × Objects) × Past l at (object_at (drop at l)) o f.end × (ltb most_deep (level + depth_of o.1) ≡ f.value)
+    go (found o u) p q = (o, past l u at f.end (object_at (drop at l)) o (rw (object_sound _ (drop at l) o u p).text (tail_object o.0 o.1 u)) (object_less _ (drop at l) o u p) p (cc), cc)
+    go (lost u) p q = absurd (cc)
 
-pub object_lost : (level n : ℕ) (r : Reading (Object × Objects)) (e : ℕ) → object_answer level n r ≡ Unread e → Leaves n r e
+pub object_lost : (level n : ℕ) (r : Reading (Object × Objects)) (x : Lost) → object_answer level n r ≡ Err x → Leaves n r x.at
 unfolding object_answer
-object_lost level n (found a u) e q = let z : ◌≡◌ {A = ℕ} 0 1 = cc in absurd (omega arith)
-object_lost level n (lost u) e q = record { rest = u; is = refl; place = cc }
+object_lost level n (found a u) x q = absurd (cc)
+object_lost level n (lost u) x q = record { rest = u; is = refl; place = cc }
 
-pub form_got : (l : List ℕ) (at e : ℕ) (d : Bool) → form_answer (length l) (form_at (drop at l)) ≡ Read e d → (f : Form) × Past l at (form_at (drop at l)) f e × (ltb most_deep (form_depth f) ≡ d)
+pub form_got : (l : List ℕ) (at : ℕ) (f : Found Bool) → form_answer (length l) (form_at (drop at l)) ≡ Ok f → (o : Form) × Past l at (form_at (drop at l)) o f.end × (ltb most_deep (form_depth o) ≡ f.value)
 unfolding form_answer
-form_got l at e d h = go (form_at (drop at l)) refl h
+form_got l at f h = go (form_at (drop at l)) refl h
   where
-    go : (r : Reading Form) → form_at (drop at l) ≡ r → form_answer (length l) r ≡ Read e d → (f : Form) × Past l at (form_at (drop at l)) f e × (ltb most_deep (form_depth f) ≡ d)
-    go (found f u) p q = (f, past l u at e (form_at (drop at l)) f (rw (form_read (drop at l) f u p).1 (tail_form f u)) (form_less (drop at l) f u p) p (cc), cc)
-    go (lost u) p q = let z : ◌≡◌ {A = ℕ} 0 1 = cc in absurd (omega arith)
+    go : (r : Reading Form) → form_at (drop at l) ≡ r → form_answer (length l) r ≡ Ok f → (o : Form) × Past l at (form_at (drop at l)) o f.end × (ltb most_deep (form_depth o) ≡ f.value)
+    go (found o u) p q = (o, past l u at f.end (form_at (drop at l)) o (rw (form_read (drop at l) o u p).1 (tail_form o u)) (form_less (drop at l) o u p) p (cc), cc)
+    go (lost u) p q = absurd (cc)
 
-form_lost : (n : ℕ) (r : Reading Form) (e : ℕ) → form_answer n r ≡ Unread e → Leaves n r e
+pub form_lost : (n : ℕ) (r : Reading Form) (x : Lost) → form_answer n r ≡ Err x → Leaves n r x.at
 unfolding form_answer
-form_lost n (found a u) e q = let z : ◌≡◌ {A = ℕ} 0 1 = cc in absurd (omega arith)
-form_lost n (lost u) e q = record { rest = u; is = refl; place = cc }
-
--- where the reader left, told by the code
-pub form_left : (n : ℕ) (r : Reading Form) (f : Answer) (e x : ℕ) → f ≡ form_answer n r → f ≡ Unread e → x ≡ left_answer f → Leaves n r x
-unfolding left_answer
-form_left n r f e x p q h = rw (h ∙ ap left_answer q) (form_lost n r e (sym p ∙ q))
+form_lost n (found a u) x q = absurd (cc)
+form_lost n (lost u) x q = record { rest = u; is = refl; place = cc }
 
 -- ---- what an object's reading comes to
 
@@ -88,21 +84,21 @@ unfolding nest_answer object_answer
 object_past level n (found f u) h = rw (lt-ltb most_deep (level + depth_of f.1) (omega arith))
 object_past level n (lost u) h = refl
 
-pub object_no_head : (level n : ℕ) (t : List ℕ) (e : ℕ) → Leaves n (head t) e → Unread e ≡ object_answer level n (object_at t)
+pub object_no_head : (level n : ℕ) (t : List ℕ) (e : ℕ) → Leaves n (head t) e → Err (record { at = e }) ≡ object_answer level n (object_at t)
 unfolding after object_answer
 object_no_head level n t e h = rw (object_is t, h.is, h.place)
 
-pub object_no_inner : (level n : ℕ) (t : List ℕ) (h : Object) (u : List ℕ) (e : ℕ) → head t ≡ found h u → Leaves n (objects_at u) e → Unread e ≡ object_answer level n (object_at t)
+pub object_no_inner : (level n : ℕ) (t : List ℕ) (h : Object) (u : List ℕ) (e : ℕ) → head t ≡ found h u → Leaves n (objects_at u) e → Err (record { at = e }) ≡ object_answer level n (object_at t)
 unfolding after object_answer
 object_no_inner level n t h u e p q = rw (object_is t, p, q.is, q.place)
 
 pub object_unclosed : (level : ℕ) (l t : List ℕ) (h : Object) (u : List ℕ) (fs : Objects) (e : ℕ) → head t ≡ found h u → objects_at u ≡ found fs (drop e l) → stands_at closing (drop e l) ≡ false → e ≤ length l
-    → Unread e ≡ object_answer level (length l) (object_at t)
+    → Err (record { at = e }) ≡ object_answer level (length l) (object_at t)
 unfolding after object_answer
 object_unclosed level l t h u fs e p q s w = rw (object_is t, p, q, stands_not {A = Object × Objects} closing (h, fs) (drop e l) s, ends l e w)
 
 pub object_closed : (level : ℕ) (l t : List ℕ) (h : Object) (u : List ℕ) (fs : Objects) (e : ℕ) → head t ≡ found h u → objects_at u ≡ found fs (drop e l) → stands_at closing (drop e l) ≡ true
-    → Read (e + 1) (ltb most_deep (level + depth_of fs)) ≡ object_answer level (length l) (object_at t)
+    → Ok (record { value = ltb most_deep (level + depth_of fs); end = e + 1 }) ≡ object_answer level (length l) (object_at t)
 unfolding after object_answer
 object_closed level l t h u fs e p q s =
     rw (object_is t, p, q, stands_expected {A = Object × Objects} l e closing (h, fs) s, ends l (e + 1) (omega (arith, (stands l e closing s).0)))
@@ -110,9 +106,9 @@ object_closed level l t h u fs e p q s =
 -- ---- objects side by side
 
 -- the answer to those that are left, where a ninth level was met or not
-unfoldable pub rest : Bool → ℕ → ℕ → Reading Objects → Answer
-rest met level n (found fs u) = Read (n - length u) (met || ltb most_deep (level + depth_of fs))
-rest met level n (lost u) = Unread (n - length u)
+unfoldable pub rest : Bool → ℕ → ℕ → Reading Objects → Result (Found Bool) Lost
+rest met level n (found fs u) = Ok (record { value = met || ltb most_deep (level + depth_of fs); end = n - length u })
+rest met level n (lost u) = Err (record { at = n - length u })
 
 pub rest_all : (level n : ℕ) (r : Reading Objects) → objects_answer level n r ≡ rest false level n r
 unfolding objects_answer rest
@@ -150,11 +146,11 @@ pub rest_more : (met : Bool) (level n : ℕ) (l : List ℕ) (at : ℕ) (f : Obje
 unfolding after
 rest_more met level n l at f e s p = rw ((stands l at line_feed s).1, objects_more (drop (at + 1) l), p) (rest_joins met level n f (objects_at (drop e l)))
 
-pub rest_none : (met : Bool) (level n : ℕ) (l : List ℕ) (at e : ℕ) → stands_at line_feed (drop at l) ≡ true → Leaves n (object_at (drop (at + 1) l)) e → Unread e ≡ rest met level n (objects_at (drop at l))
+pub rest_none : (met : Bool) (level n : ℕ) (l : List ℕ) (at e : ℕ) → stands_at line_feed (drop at l) ≡ true → Leaves n (object_at (drop (at + 1) l)) e → Err (record { at = e }) ≡ rest met level n (objects_at (drop at l))
 unfolding after rest
 rest_none met level n l at e s p = rw ((stands l at line_feed s).1, objects_more (drop (at + 1) l), p.is, p.place)
 
-pub rest_ends : (met : Bool) (level : ℕ) (l : List ℕ) (at : ℕ) → level ≤ most_deep → stands_at line_feed (drop at l) ≡ false → at ≤ length l → Read at met ≡ rest met level (length l) (objects_at (drop at l))
+pub rest_ends : (met : Bool) (level : ℕ) (l : List ℕ) (at : ℕ) → level ≤ most_deep → stands_at line_feed (drop at l) ≡ false → at ≤ length l → Ok (record { value = met; end = at }) ≡ rest met level (length l) (objects_at (drop at l))
 unfolding rest depth_of
 rest_ends met level l at h s w = rw (objects_stop (drop at l) s, ends l at w, le-ltb most_deep (level + 0) (omega arith), or_none met)
 
@@ -178,12 +174,12 @@ pub form_object : (n : ℕ) (l : List ℕ) (at : ℕ) → stands_at 116 (drop (a
 unfolding form_at
 form_object n l at s = rw (second_at l at, s) (root_answer n (object_at (drop at l)))
 
-pub form_task : (l : List ℕ) (at n i v r e : ℕ) → stands_at 116 (drop (at + 1) l) ≡ true → task_answer (length l) (task_at (drop at l)) ≡ Runs n i v r e → Read e false ≡ form_answer (length l) (form_at (drop at l))
+pub form_task : (l : List ℕ) (at : ℕ) (f : Found Task) → stands_at 116 (drop (at + 1) l) ≡ true → answer (length l) (task_at (drop at l)) ≡ Ok f → Ok (record { value = false; end = f.end }) ≡ form_answer (length l) (form_at (drop at l))
 unfolding form_at form_answer form_depth after
-form_task l at n i v r e s h =
-    let g = (task_got l at n i v r e h).0 in
-    rw (second_at l at, s, g.is, ends l e g.within)
+form_task l at f s h =
+    let g = (task_got l at f h).0 in
+    rw (second_at l at, s, g.is, ends l f.end g.within)
 
-pub form_no_task : (l : List ℕ) (at e : ℕ) → stands_at 116 (drop (at + 1) l) ≡ true → Leaves (length l) (task_at (drop at l)) e → Unread e ≡ form_answer (length l) (form_at (drop at l))
+pub form_no_task : (l : List ℕ) (at e : ℕ) → stands_at 116 (drop (at + 1) l) ≡ true → Leaves (length l) (task_at (drop at l)) e → Err (record { at = e }) ≡ form_answer (length l) (form_at (drop at l))
 unfolding form_at form_answer after
 form_no_task l at e s h = rw (second_at l at, s, h.is, h.place)

@@ -1,6 +1,6 @@
 -- Counting brackets past the eighth level: it reads what the grammar reads.
 -- Assumes nothing.
-use Rattle.std.specs.Prelude.{◌≡◌, refl, Bool, true, false, cond, List, [], ◌∷◌, ℕ, zero, suc, ◌+◌, ◌-◌, ◌≤◌, ◌<◌, eqb, length, drop}
+use Rattle.std.specs.Prelude.{◌≡◌, refl, Bool, true, false, cond, Result, Ok, Err, List, [], ◌∷◌, ℕ, zero, suc, ◌+◌, ◌-◌, ◌≤◌, ◌<◌, eqb, length, drop}
 use Rattle.std.proofs.Common.{ap, ◌∙◌, arith, add-one}
 use Rattle.layout.specs.Layout.{Object, Objects, object, line_feed, closing}
 use Rattle.layout.specs.Reading.{Reading, found, lost, after, expect, head, object_at, objects_at}
@@ -8,8 +8,8 @@ use Rattle.layout.proofs.NumberLaws.{expect_is}
 use Rattle.layout.proofs.PlaceLaws.{ends, Leaves, stands, stands_not}
 use Rattle.layout.proofs.ReadingLaws.{object_is, objects_more, objects_stop}
 use Rattle.layout.specs.Answers.{stands_at, nest_answer}
-use Rattle.layout.specs.declared.Answer.{Answer}
-use Rattle.layout.specs.declared.Answer.TheVariants.{Read, Unread}
+use Rattle.layout.specs.declared.fields.Found.{Found}
+use Rattle.layout.specs.declared.fields.Lost.{Lost}
 
 -- the closing bracket
 abbrev pub shut : List ℕ → Reading (Unit {0})
@@ -20,9 +20,9 @@ unfoldable pub closes : ℕ → List ℕ → Reading (Unit {0})
 closes zero t = found (tt {0}) t
 closes (suc k) t = after (objects_at t) λ inner u. after (shut u) λ _ v. closes k v
 
-unfoldable pub close_answer : ℕ → Reading (Unit {0}) → Answer
-close_answer n (found a u) = Read (n - length u) true
-close_answer n (lost u) = Unread (n - length u)
+unfoldable pub close_answer : ℕ → Reading (Unit {0}) → Result (Found Bool) Lost
+close_answer n (found a u) = Ok (record { value = true; end = n - length u })
+close_answer n (lost u) = Err (record { at = n - length u })
 
 -- ---- where reading goes on without what was read
 
@@ -90,7 +90,7 @@ nest_is n t = go (object_at t) ∙ ap (close_answer n) (object_then t (λ x. fou
 
 -- ---- at a place of the text: what counting answers
 
-pub nest_no_head : (n : ℕ) (t : List ℕ) (e : ℕ) → Leaves n (head t) e → Unread e ≡ nest_answer n (object_at t)
+pub nest_no_head : (n : ℕ) (t : List ℕ) (e : ℕ) → Leaves n (head t) e → Err (record { at = e }) ≡ nest_answer n (object_at t)
 unfolding after close_answer
 nest_no_head n t e h = rw (nest_is n t, h.is, h.place)
 
@@ -111,15 +111,15 @@ pub nest_opens : (l : List ℕ) (k at : ℕ) (h : Object) (e : ℕ) → 0 < k �
 unfolding after
 nest_opens l k at h e z s p = nest_inner l k at z s ∙ rw p
 
-pub nest_no_inner : (n : ℕ) (l : List ℕ) (k at e : ℕ) → 0 < k → stands_at line_feed (drop at l) ≡ true → Leaves n (head (drop (at + 1) l)) e → close_answer n (closes k (drop at l)) ≡ Unread e
+pub nest_no_inner : (n : ℕ) (l : List ℕ) (k at e : ℕ) → 0 < k → stands_at line_feed (drop at l) ≡ true → Leaves n (head (drop (at + 1) l)) e → close_answer n (closes k (drop at l)) ≡ Err (record { at = e })
 unfolding after close_answer
 nest_no_inner n l k at e z s p = ap (close_answer n) (nest_inner l k at z s) ∙ rw (p.is, p.place)
 
-pub nest_lost : (l : List ℕ) (k at : ℕ) → 0 < k → at ≤ length l → stands_at closing (drop at l) ≡ false → stands_at line_feed (drop at l) ≡ false → close_answer (length l) (closes k (drop at l)) ≡ Unread at
+pub nest_lost : (l : List ℕ) (k at : ℕ) → 0 < k → at ≤ length l → stands_at closing (drop at l) ≡ false → stands_at line_feed (drop at l) ≡ false → close_answer (length l) (closes k (drop at l)) ≡ Err (record { at = at })
 unfolding close_answer
 nest_lost l zero at z w c s = absurd (omega arith)
 nest_lost l (suc k) at z w c s = rw (closes_lost k (drop at l) c s, ends l at w)
 
-pub nest_ends : (l : List ℕ) (k at : ℕ) → k ≡ 0 → at ≤ length l → close_answer (length l) (closes k (drop at l)) ≡ Read at true
+pub nest_ends : (l : List ℕ) (k at : ℕ) → k ≡ 0 → at ≤ length l → close_answer (length l) (closes k (drop at l)) ≡ Ok (record { value = true; end = at })
 unfolding closes close_answer
 nest_ends l k at z w = rw (z, ends l at w)

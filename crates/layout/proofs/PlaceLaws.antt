@@ -1,21 +1,19 @@
 -- A place in a text and what is left there; what the answers to fields, objects' words and tasks tell of a reading.
 -- Assumes nothing.
-use Rattle.std.specs.Prelude.{◌≡◌, Bool, true, false, cond, List, [], ◌∷◌, ◌++◌, ℕ, ◌+◌, ◌-◌, ◌*◌, ◌≤◌, ◌<◌, eqb, length, get_or, drop}
+use Rattle.std.specs.Prelude.{◌≡◌, Bool, true, false, cond, None, Some, Result, Ok, Err, List, [], ◌∷◌, ◌++◌, ℕ, ◌+◌, ◌-◌, ◌*◌, ◌≤◌, ◌<◌, eqb, length, get_or, drop}
 use Rattle.std.proofs.Math.Path.{refl}
-use Rattle.std.proofs.Common.{sym, ap, ◌∙◌, arith, add-one, length-drop, drop_of_length-le, drop-cons, drop-drop, eqb-true, le-leb}
-use Rattle.std.proofs.lemmas.Bool.{false≢true, lt-leb}
+use Rattle.std.proofs.Common.{sym, ap, ◌∙◌, arith, add-one, length-drop, drop_of_length-le, drop-cons, drop-drop, eqb-true, eq-eqb}
+use Rattle.std.proofs.lemmas.Bool.{false≢true}
+use Rattle.std.proofs.lemmas.Result.{err_from_is_err_and}
+use Rattle.std.specs.Result.{IsErrAnd}
 use Rattle.std.proofs.Math.Decide.{dec_lt}
 use Rattle.std.proofs.Math.Seq.{drop-append_seam}
 use Rattle.layout.specs.Layout.{Object, Task, closing, object_word, driver_word, level_word, task_word, image_word, reads_word, digit, decimal, field_text, head_text, task_text}
 use Rattle.layout.specs.Reading.{Reading, found, lost, after, expect, is_digit, more_digits, number, field, head, task_at}
-use Rattle.layout.specs.Answers.{digit_at, stands_at, field_answer, left_field, head_answer, left_head, task_answer, left_task}
+use Rattle.layout.specs.Answers.{digit_at, stands_at, answer}
+use Rattle.layout.specs.declared.fields.Found.{Found}
+use Rattle.layout.specs.declared.fields.Lost.{Lost}
 use Rattle.layout.proofs.NumberLaws.{starts, digit_is, digit_bounds, more_stop, more_digit, first_digit, field_read, head_read, task_read, field_longer, head_longer, task_longer, expect_is}
-use Rattle.layout.specs.declared.fields.Field.{Field}
-use Rattle.layout.specs.declared.fields.Field.TheVariants.{Number, Missing}
-use Rattle.layout.specs.declared.fields.Heading.{Heading}
-use Rattle.layout.specs.declared.fields.Heading.TheVariants.{Holds, Headless}
-use Rattle.layout.specs.declared.fields.Running.{Running}
-use Rattle.layout.specs.declared.fields.Running.TheVariants.{Runs, Idle}
 
 -- ---- a place, and what is left there
 
@@ -75,6 +73,10 @@ goes l t u at e r a b p q s f g h =
     let d = rest_in l t u at p q in
     record { is = f ∙ rw (g, ← h, ← d); within = omega arith; less = rw (← h, ← d, p) s }
 
+-- what is left there is less, if something was read
+fewer : (l t u : List ℕ) (at e : ℕ) → drop at l ≡ t → Tail t u → length u < length t → length l - length u ≡ e → length (drop e l) < length (drop at l)
+fewer l t u at e p q s h = rw (← h, ← rest_in l t u at p q, p) s
+
 -- the reader left at e, in a text of length n
 pub record Leaves {A : Type 0} (n : ℕ) (r : Reading A) (e : ℕ) : Type 0 where
   pub rest : List ℕ
@@ -113,38 +115,38 @@ stands_is l at c h = rw (cons_at l at h)
 
 -- ---- a digit
 
-pub digit_past : (l : List ℕ) (at : ℕ) → length l ≤ at → 10 ≡ digit_at (drop at l)
+pub digit_past : (l : List ℕ) (at : ℕ) → length l ≤ at → None ≡ digit_at (drop at l)
 unfolding digit_at
 digit_past l at h = rw (drop_of_length-le l h)
 
-pub digit_low : (l : List ℕ) (at : ℕ) → at < length l → get_or l at 0 < 48 → 10 ≡ digit_at (drop at l)
-unfolding digit_at is_digit
-digit_low l at h p = rw (drop-cons l at 0 h, lt-leb 48 (get_or l at 0) p)
-
-pub digit_high : (l : List ℕ) (at : ℕ) → at < length l → 57 < get_or l at 0 → 10 ≡ digit_at (drop at l)
-unfolding digit_at is_digit
-digit_high l at h p = rw (drop-cons l at 0 h, le-leb 48 (get_or l at 0) (omega arith), lt-leb (get_or l at 0) 57 p)
-
-pub digit_here : (l : List ℕ) (at : ℕ) → at < length l → 48 ≤ get_or l at 0 → get_or l at 0 ≤ 57 → get_or l at 0 - 48 ≡ digit_at (drop at l)
-unfolding digit_at is_digit
-digit_here l at h p q = rw (drop-cons l at 0 h, le-leb 48 (get_or l at 0) p, le-leb (get_or l at 0) 57 q)
-
-at_digit : (t : List ℕ) → digit_at t ≤ 9 → (s : List ℕ) × (t ≡ digit (digit_at t) ∷ s)
+pub digit_not : (l : List ℕ) (at : ℕ) → at < length l → is_digit (get_or l at 0) ≡ false → None ≡ digit_at (drop at l)
 unfolding digit_at
-at_digit [] h = absurd (omega arith)
-at_digit (b ∷ t) h = go (is_digit b) refl h
-  where
-    go : (y : Bool) → is_digit b ≡ y → cond y (b - 48) 10 ≤ 9 → (s : List ℕ) × (b ∷ t ≡ digit (cond y (b - 48) 10) ∷ s)
-    go true e p = let q = digit_bounds b e in let is : b ≡ 48 + (b - 48) = omega (arith, q) in (t, ap (λ (x : ℕ). x ∷ t) is)
-    go false e p = absurd (omega arith)
+digit_not l at h e = rw (cons_at l at h, e)
 
-at_none : (t : List ℕ) → 9 < digit_at t → starts t ≡ false
+pub digit_here : (l : List ℕ) (at : ℕ) → at < length l → is_digit (get_or l at 0) ≡ true → Some (get_or l at 0 - 48) ≡ digit_at (drop at l)
+unfolding digit_at
+digit_here l at h e = rw (cons_at l at h, e)
+
+at_digit : (t : List ℕ) (d : ℕ) → digit_at t ≡ Some d → (s : List ℕ) × (t ≡ digit d ∷ s) × (d ≤ 9)
+unfolding digit_at
+at_digit [] d h = absurd (cc)
+at_digit (b ∷ t) d h = go (is_digit b) refl h
+  where
+    go : (y : Bool) → is_digit b ≡ y → cond y (Some (b - 48)) None ≡ Some d → (s : List ℕ) × (b ∷ t ≡ digit d ∷ s) × (d ≤ 9)
+    go true e p =
+        let q = digit_bounds b e in
+        let v : b - 48 ≡ d = cc in
+        let is : b ≡ 48 + d = omega (arith, q) in
+        (t, ap (λ (x : ℕ). x ∷ t) is, omega (arith, q))
+    go false e p = absurd (cc)
+
+at_none : (t : List ℕ) → digit_at t ≡ None → starts t ≡ false
 unfolding digit_at starts
 at_none [] h = refl
 at_none (b ∷ t) h = go (is_digit b) refl h
   where
-    go : (y : Bool) → is_digit b ≡ y → 9 < cond y (b - 48) 10 → y ≡ false
-    go true e p = let q = digit_bounds b e in absurd (omega (arith, q))
+    go : (y : Bool) → is_digit b ≡ y → cond y (Some (b - 48)) None ≡ None → y ≡ false
+    go true e p = absurd (cc)
     go false e p = refl
 
 drop_is : (l s : List ℕ) (at x : ℕ) → drop at l ≡ x ∷ s → (at < length l) × (s ≡ drop (at + 1) l)
@@ -154,22 +156,20 @@ drop_is l s at x e =
     let f = drop-cons l at 0 h in
     (h, rw add-one (cc))
 
--- the digit d stands at `at`
-pub here : (l : List ℕ) (at d : ℕ) → d ≡ digit_at (drop at l) → d ≤ 9 → (at < length l) × (drop at l ≡ digit d ∷ drop (at + 1) l)
-here l at d e h =
-    let t = at_digit (drop at l) (rw (← e) h) in
-    let s = drop_is l t.0 at _ t.1 in
-    (s.0, t.1 ∙ rw (← e, s.1))
+-- the digit d stands at the place p, and j is the next one
+pub record Here (l : List ℕ) (p j d : ℕ) : Type 0 where
+  pub within : j ≤ length l
+  pub small : d ≤ 9
+  pub is : drop p l ≡ digit d ∷ drop j l
 
--- the next place, with its sum worked out
-pub here' : (l : List ℕ) (at k j d : ℕ) → k + 1 ≡ j → d ≡ digit_at (drop (at + k) l) → d ≤ 9 → (at + k < length l) × (drop (at + k) l ≡ digit d ∷ drop (at + j) l)
-here' l at k j d e f h =
-    let r = here l (at + k) d f h in
-    let s : at + k + 1 ≡ at + j = omega arith in
-    (r.0, r.1 ∙ rw s)
+pub here : (l : List ℕ) (p j d : ℕ) → p + 1 ≡ j → digit_at (drop p l) ≡ Some d → Here l p j d
+here l p j d e h =
+    let t = at_digit (drop p l) d h in
+    let s = drop_is l t.0 p _ t.1 in
+    record { within = omega (arith, s.0); small = t.2; is = t.1 ∙ rw (s.1, e) }
 
-pub none_here : (l : List ℕ) (at d : ℕ) → d ≡ digit_at (drop at l) → 9 < d → starts (drop at l) ≡ false
-none_here l at d e h = at_none (drop at l) (rw (← e) h)
+pub none_here : (l : List ℕ) (at : ℕ) → digit_at (drop at l) ≡ None → starts (drop at l) ≡ false
+none_here l at e = at_none (drop at l) e
 
 -- ---- a number of no digit, of a zero, of one, two and three digits
 
@@ -186,66 +186,77 @@ number_zero : (t : List ℕ) → number (digit 0 ∷ t) ≡ found 0 t
 unfolding number
 number_zero t = refl
 
-pub zero_digit : (l : List ℕ) (at a : ℕ) → drop at l ≡ digit a ∷ drop (at + 1) l → a ≡ 0 → number (drop at l) ≡ found 0 (drop (at + 1) l)
-zero_digit l at a e z = ap number e ∙ rw z (number_zero (drop (at + 1) l))
+pub zero_digit : (l : List ℕ) (p q a : ℕ) → Here l p q a → a ≡ 0 → number (drop p l) ≡ found 0 (drop q l)
+zero_digit l p q a h z = ap number h.is ∙ rw z (number_zero (drop q l))
 
-pub one_digit : (l : List ℕ) (at a : ℕ) → drop at l ≡ digit a ∷ drop (at + 1) l → 1 ≤ a → a ≤ 9 → starts (drop (at + 1) l) ≡ false → number (drop at l) ≡ found a (drop (at + 1) l)
-one_digit l at a e p q s = rw e (first_digit a (drop (at + 1) l) p q ∙ more_stop 2 a (drop (at + 1) l) s)
+pub one_digit : (l : List ℕ) (p q a : ℕ) → Here l p q a → 1 ≤ a → starts (drop q l) ≡ false → number (drop p l) ≡ found a (drop q l)
+one_digit l p q a h z s = ap number h.is ∙ first_digit a (drop q l) z h.small ∙ more_stop 2 a (drop q l) s
 
-pub two_digits : (l : List ℕ) (at a b : ℕ) → drop at l ≡ digit a ∷ drop (at + 1) l → 1 ≤ a → a ≤ 9 → drop (at + 1) l ≡ digit b ∷ drop (at + 2) l → b ≤ 9 → starts (drop (at + 2) l) ≡ false
-    → number (drop at l) ≡ found (10 * a + b) (drop (at + 2) l)
-two_digits l at a b e p q f r s = ap number (e ∙ ap (λ (x : List ℕ). digit a ∷ x) f) ∙ first_digit a _ p q ∙ more_digit 1 a b _ r ∙ more_stop 1 _ (drop (at + 2) l) s
+pub two_digits : (l : List ℕ) (p q r a b : ℕ) → Here l p q a → 1 ≤ a → Here l q r b → starts (drop r l) ≡ false → number (drop p l) ≡ found (10 * a + b) (drop r l)
+two_digits l p q r a b h z i s = ap number (h.is ∙ ap (λ (x : List ℕ). digit a ∷ x) i.is) ∙ first_digit a _ z h.small ∙ more_digit 1 a b _ i.small ∙ more_stop 1 _ (drop r l) s
 
-pub three_digits : (l : List ℕ) (at a b c : ℕ) → drop at l ≡ digit a ∷ drop (at + 1) l → 1 ≤ a → a ≤ 9 → drop (at + 1) l ≡ digit b ∷ drop (at + 2) l → b ≤ 9 → drop (at + 2) l ≡ digit c ∷ drop (at + 3) l → c ≤ 9
-    → number (drop at l) ≡ found (10 * (10 * a + b) + c) (drop (at + 3) l)
-three_digits l at a b c e p q f r g s = ap number (e ∙ ap (λ (x : List ℕ). digit a ∷ x) (f ∙ ap (λ (x : List ℕ). digit b ∷ x) g)) ∙ first_digit a _ p q ∙ more_digit 1 a b _ r ∙ more_digit 0 _ c _ s ∙ no_more _ (drop (at + 3) l)
+pub three_digits : (l : List ℕ) (p q r s a b c : ℕ) → Here l p q a → 1 ≤ a → Here l q r b → Here l r s c → number (drop p l) ≡ found (10 * (10 * a + b) + c) (drop s l)
+three_digits l p q r s a b c h z i j =
+    ap number (h.is ∙ ap (λ (x : List ℕ). digit a ∷ x) (i.is ∙ ap (λ (x : List ℕ). digit b ∷ x) j.is)) ∙ first_digit a _ z h.small ∙ more_digit 1 a b _ i.small ∙ more_digit 0 _ c _ j.small ∙ no_more _ (drop s l)
   where
     no_more : (v : ℕ) (t : List ℕ) → more_digits 0 v t ≡ found v t
     no_more v t = unfold more_digits in refl
 
--- ---- a word, byte by byte
+-- ---- a word
 
-pub word_step : (l w : List ℕ) (i p : ℕ) → i < length w → p < length l → field (drop i w) (drop p l) ≡ cond (eqb (get_or l p 0) (get_or w i 0)) (field (drop (i + 1) w) (drop (p + 1) l)) (lost (drop p l))
+-- byte by byte
+pub word_step : (l w : List ℕ) (i p : ℕ) → i < length w → stands_at (get_or w i 0) (drop p l) ≡ true → field (drop i w) (drop p l) ≡ field (drop (i + 1) w) (drop (p + 1) l)
 unfolding field
-word_step l w i p a b = rw (add-one i, add-one p, drop-cons w i 0 a, drop-cons l p 0 b)
+word_step l w i p a s = rw ((stands l p (get_or w i 0) s).1, add-one i, drop-cons w i 0 a, eq-eqb (get_or w i 0) (get_or w i 0) refl)
 
-pub word_short : (l w : List ℕ) (i p : ℕ) → i < length w → length l ≤ p → field (drop i w) (drop p l) ≡ lost (drop p l)
-unfolding field
-word_short l w i p a b = rw (drop-cons w i 0 a, drop_of_length-le l b)
+other_byte : (c : ℕ) (v t : List ℕ) → stands_at c t ≡ false → field (c ∷ v) t ≡ lost t
+unfolding field stands_at
+other_byte c v [] e = refl
+other_byte c v (b ∷ t) e = rw e
+
+pub word_lost : (l w : List ℕ) (i p : ℕ) → i < length w → stands_at (get_or w i 0) (drop p l) ≡ false → field (drop i w) (drop p l) ≡ lost (drop p l)
+word_lost l w i p a s = ap (λ (v : List ℕ). field v (drop p l)) (drop-cons w i 0 a) ∙ other_byte _ _ _ s
 
 pub word_end : (l w : List ℕ) (i p : ℕ) → length w ≤ i → field (drop i w) (drop p l) ≡ number (drop p l)
 unfolding field
 word_end l w i p a = rw (drop_of_length-le w a)
 
--- ---- the answer to a field
+-- the whole word
+pub word_stands : (w t u : List ℕ) → t ≡ w ++ u → field w t ≡ number u
+unfolding field
+word_stands [] t u e = rw e
+word_stands (c ∷ w) t u e = rw (e, eq-eqb c c refl) (word_stands w (w ++ u) u refl)
 
-pub field_answer_law : (l : List ℕ) (r : Reading ℕ) (v e : ℕ) → r ≡ found v (drop e l) → e ≤ length l → Number v e ≡ field_answer (length l) r
-unfolding field_answer
-field_answer_law l r v e h w = rw (h, ends l e w)
+-- ---- an answer
 
-pub field_missing : (n : ℕ) (r : Reading ℕ) (e : ℕ) → Leaves n r e → Missing e ≡ field_answer n r
-unfolding field_answer
-field_missing n r e h = rw (h.is, h.place)
+pub found_is : {A : Type 0} (l : List ℕ) (r : Reading A) (a : A) (e : ℕ) → r ≡ found a (drop e l) → e ≤ length l → Ok (record { value = a; end = e }) ≡ answer (length l) r
+unfolding answer
+found_is l r a e h w = rw (h, ends l e w)
 
-pub field_got : (l w : List ℕ) (at v e : ℕ) → field_answer (length l) (field w (drop at l)) ≡ Number v e → Goes l at (field w (drop at l)) v e
-unfolding field_answer
-field_got l w at v e h = go (field w (drop at l)) refl h
-  where
-    go : (r : Reading ℕ) → field w (drop at l) ≡ r → field_answer (length l) r ≡ Number v e → Goes l at (field w (drop at l)) v e
-    go (found a u) p q =
-        let f = field_read w (drop at l) a u p in
-        goes l (field_text w a u) u at e (field w (drop at l)) a v f.1 (tail_field w a u) (omega (arith, field_longer w a u)) p (cc) (cc)
-    go (lost u) p q = let z : ◌≡◌ {A = ℕ} 0 1 = cc in absurd (omega arith)
+pub lost_is : {A : Type 0} (n : ℕ) (r : Reading A) (e : ℕ) → Leaves n r e → Err (record { at = e }) ≡ answer n r
+unfolding answer
+lost_is n r e h = rw (h.is, h.place)
 
-pub field_lost : (n : ℕ) (r : Reading ℕ) (e : ℕ) → field_answer n r ≡ Missing e → Leaves n r e
-unfolding field_answer
-field_lost n (found a u) e q = let z : ◌≡◌ {A = ℕ} 0 1 = cc in absurd (omega arith)
-field_lost n (lost u) e q = record { rest = u; is = refl; place = cc }
+-- the error that a `?` passes on
+pub passed_on : {T E : Type 0} (x : E) (out : Result T E) → IsErrAnd out (λ y. y ≡ x) → out ≡ Err x
+passed_on x out h = let p = err_from_is_err_and out h in p.1 ∙ ap Err p.2
 
--- where the reader left, told by the code
-pub field_left : (n : ℕ) (r : Reading ℕ) (f : Field) (e x : ℕ) → f ≡ field_answer n r → f ≡ Missing e → x ≡ left_field f → Leaves n r x
-unfolding left_field
-field_left n r f e x p q h = rw (h ∙ ap left_field q) (field_lost n r e (sym p ∙ q))
+-- what it tells of the reading
+found_of : {A : Type 0} (n : ℕ) (r : Reading A) (f : Found A) → answer n r ≡ Ok f → (u : List ℕ) × (r ≡ found f.value u) × (n - length u ≡ f.end)
+unfolding answer
+found_of n (found a u) f e = let v : a ≡ f.value = cc in (u, rw v, cc)
+found_of n (lost u) f e = absurd (cc)
+
+pub lost_of : {A : Type 0} (n : ℕ) (r : Reading A) (x : Lost) → answer n r ≡ Err x → Leaves n r x.at
+unfolding answer
+lost_of n (found a u) x e = absurd (cc)
+lost_of n (lost u) x e = record { rest = u; is = refl; place = cc }
+
+pub field_got : (l w : List ℕ) (at : ℕ) (f : Found ℕ) → answer (length l) (field w (drop at l)) ≡ Ok f → Goes l at (field w (drop at l)) f.value f.end
+field_got l w at f e =
+    let g = found_of (length l) _ f e in
+    let r = field_read w (drop at l) f.value g.0 g.1 in
+    goes l (field_text w f.value g.0) g.0 at f.end _ f.value f.value r.1 (tail_field w f.value g.0) (omega (arith, field_longer w f.value g.0)) g.1 refl g.2
 
 -- ---- the answer to an object's words
 
@@ -265,37 +276,14 @@ pub head_whole : (a b c : ℕ) (t u v w : List ℕ) → field object_word t ≡ 
 unfolding head after
 head_whole a b c t u v w f g h = rw (f, g, h)
 
-pub head_answer_law : (l : List ℕ) (r : Reading Object) (h : Object) (e : ℕ) → r ≡ found h (drop e l) → e ≤ length l → Holds h.number h.driver h.level e ≡ head_answer (length l) r
-unfolding head_answer
-head_answer_law l r h e f w = rw (f, ends l e w)
-
-pub head_missing : (n : ℕ) (r : Reading Object) (e : ℕ) → Leaves n r e → Headless e ≡ head_answer n r
-unfolding head_answer
-head_missing n r e h = rw (h.is, h.place)
-
-pub head_got : (l : List ℕ) (at a b c e : ℕ) → head_answer (length l) (head (drop at l)) ≡ Holds a b c e → Goes l at (head (drop at l)) (record { number = a; driver = b; level = c }) e × (length (drop e l) < length (drop at l))
-unfolding head_answer
-head_got l at a b c e h = go (head (drop at l)) refl h
-  where
-    go : (r : Reading Object) → head (drop at l) ≡ r → head_answer (length l) r ≡ Holds a b c e → Goes l at (head (drop at l)) (record { number = a; driver = b; level = c }) e × (length (drop e l) < length (drop at l))
-    go (found k u) p q =
-        let f = head_read (drop at l) k u p in
-        let n : k.number ≡ a = cc in
-        let d : k.driver ≡ b = cc in
-        let v : k.level ≡ c = cc in
-        let x : length l - length u ≡ e = cc in
-        let g = goes l (head_text k u) u at e (head (drop at l)) k (record { number = a; driver = b; level = c }) f.1 (tail_head k u) (omega (arith, head_longer k u)) p (rw (← n, ← d, ← v)) x in
-        (g, rw (← x, ← rest_in l (head_text k u) u at f.1 (tail_head k u), f.1) (head_longer k u))
-    go (lost u) p q = let z : ◌≡◌ {A = ℕ} 0 1 = cc in absurd (omega arith)
-
-pub head_lost : (n : ℕ) (r : Reading Object) (e : ℕ) → head_answer n r ≡ Headless e → Leaves n r e
-unfolding head_answer
-head_lost n (found a u) e q = let z : ◌≡◌ {A = ℕ} 0 1 = cc in absurd (omega arith)
-head_lost n (lost u) e q = record { rest = u; is = refl; place = cc }
-
-pub head_left : (n : ℕ) (r : Reading Object) (f : Heading) (e x : ℕ) → f ≡ head_answer n r → f ≡ Headless e → x ≡ left_head f → Leaves n r x
-unfolding left_head
-head_left n r f e x p q h = rw (h ∙ ap left_head q) (head_lost n r e (sym p ∙ q))
+pub head_got : (l : List ℕ) (at : ℕ) (f : Found Object) → answer (length l) (head (drop at l)) ≡ Ok f → Goes l at (head (drop at l)) f.value f.end × (length (drop f.end l) < length (drop at l))
+head_got l at f e =
+    let g = found_of (length l) _ f e in
+    let r = head_read (drop at l) f.value g.0 g.1 in
+    let more = head_longer f.value g.0 in (
+      goes l (head_text f.value g.0) g.0 at f.end _ f.value f.value r.1 (tail_head f.value g.0) (omega (arith, more)) g.1 refl g.2,
+      fewer l (head_text f.value g.0) g.0 at f.end r.1 (tail_head f.value g.0) more g.2,
+    )
 
 -- ---- the answer to a task
 
@@ -328,35 +316,11 @@ pub task_closes : (a b c d : ℕ) (t w x : List ℕ) → Three t a b c w → fie
 unfolding task_at after
 task_closes a b c d t w x s h = rw (s.first, s.second, s.third, h)
 
-pub task_answer_law : (l : List ℕ) (r : Reading Task) (a : Task) (e : ℕ) → r ≡ found a (drop e l) → e ≤ length l → Runs a.number a.image a.level a.reads e ≡ task_answer (length l) r
-unfolding task_answer
-task_answer_law l r a e f w = rw (f, ends l e w)
-
-pub task_missing : (n : ℕ) (r : Reading Task) (e : ℕ) → Leaves n r e → Idle e ≡ task_answer n r
-unfolding task_answer
-task_missing n r e h = rw (h.is, h.place)
-
-pub task_got : (l : List ℕ) (at n i v r e : ℕ) → task_answer (length l) (task_at (drop at l)) ≡ Runs n i v r e → Goes l at (task_at (drop at l)) (record { number = n; image = i; level = v; reads = r }) e × (length (drop e l) < length (drop at l))
-unfolding task_answer
-task_got l at n i v r e h = go (task_at (drop at l)) refl h
-  where
-    go : (s : Reading Task) → task_at (drop at l) ≡ s → task_answer (length l) s ≡ Runs n i v r e → Goes l at (task_at (drop at l)) (record { number = n; image = i; level = v; reads = r }) e × (length (drop e l) < length (drop at l))
-    go (found k u) p q =
-        let f = task_read (drop at l) k u p in
-        let a : k.number ≡ n = cc in
-        let b : k.image ≡ i = cc in
-        let c : k.level ≡ v = cc in
-        let d : k.reads ≡ r = cc in
-        let x : length l - length u ≡ e = cc in
-        let g = goes l (task_text k u) u at e (task_at (drop at l)) k (record { number = n; image = i; level = v; reads = r }) f.1 (tail_task k u) (omega (arith, task_longer k u)) p (rw (← a, ← b, ← c, ← d)) x in
-        (g, rw (← x, ← rest_in l (task_text k u) u at f.1 (tail_task k u), f.1) (task_longer k u))
-    go (lost u) p q = let z : ◌≡◌ {A = ℕ} 0 1 = cc in absurd (omega arith)
-
-pub task_lost : (n : ℕ) (r : Reading Task) (e : ℕ) → task_answer n r ≡ Idle e → Leaves n r e
-unfolding task_answer
-task_lost n (found a u) e q = let z : ◌≡◌ {A = ℕ} 0 1 = cc in absurd (omega arith)
-task_lost n (lost u) e q = record { rest = u; is = refl; place = cc }
-
-pub task_left : (n : ℕ) (r : Reading Task) (f : Running) (e x : ℕ) → f ≡ task_answer n r → f ≡ Idle e → x ≡ left_task f → Leaves n r x
-unfolding left_task
-task_left n r f e x p q h = rw (h ∙ ap left_task q) (task_lost n r e (sym p ∙ q))
+pub task_got : (l : List ℕ) (at : ℕ) (f : Found Task) → answer (length l) (task_at (drop at l)) ≡ Ok f → Goes l at (task_at (drop at l)) f.value f.end × (length (drop f.end l) < length (drop at l))
+task_got l at f e =
+    let g = found_of (length l) _ f e in
+    let r = task_read (drop at l) f.value g.0 g.1 in
+    let more = task_longer f.value g.0 in (
+      goes l (task_text f.value g.0) g.0 at f.end _ f.value f.value r.1 (tail_task f.value g.0) (omega (arith, more)) g.1 refl g.2,
+      fewer l (task_text f.value g.0) g.0 at f.end r.1 (tail_task f.value g.0) more g.2,
+    )

@@ -1,6 +1,6 @@
 -- What a whole text settles: its forms, one by one, and where the first ninth level begins.
 -- Assumes nothing.
-use Rattle.std.specs.Prelude.{◌≡◌, refl, Bool, true, false, cond, ◌&&◌, ◌||◌, List, ◌∷◌, ℕ, ◌+◌, ◌-◌, ◌≤◌, ◌<◌, leb, ltb, eqb, length, get_or, drop}
+use Rattle.std.specs.Prelude.{◌≡◌, refl, Bool, true, false, cond, ◌&&◌, ◌||◌, Result, Ok, Err, List, ◌∷◌, ℕ, ◌+◌, ◌-◌, ◌≤◌, ◌<◌, leb, ltb, eqb, length, get_or, drop}
 use Rattle.std.proofs.Common.{ap, ◌∙◌, arith, drop_of_length-le, lt-ltb, le-ltb, leb-true, leb-false}
 use Rattle.layout.specs.Layout.{Form, form_depth, Layout, depth, most_deep, most_bytes, line_feed, opening, closing}
 use Rattle.layout.specs.Reading.{Reading, found, lost, after, expect, form_at, layout_by, read_layout, fits, deep, opened, ninth_from, settled_by, settled}
@@ -8,26 +8,26 @@ use Rattle.layout.specs.Answers.{stands_at, text_answer}
 use Rattle.layout.proofs.PlaceLaws.{ends, cons_at, Leaves, stands, stands_not}
 use Rattle.layout.proofs.ReadingLaws.{layout_more, layout_line}
 use Rattle.layout.proofs.AnswerLaws.{or_assoc, or_none, either_past}
-use Rattle.layout.specs.declared.Text.{Text}
-use Rattle.layout.specs.declared.Text.TheVariants.{Fits, Broken, Deep}
+use Rattle.layout.specs.declared.Fault.{Fault}
+use Rattle.layout.specs.declared.Fault.TheVariants.{Broken, Deep}
 
 -- ---- the forms of a text
 
 -- the answer to those that are left of the text t, where a ninth level was met or not
-unfoldable pub lines : List ℕ → Bool → Reading Layout → Text
-lines t met (found f u) = cond (met || ltb most_deep (depth f)) (Deep (ninth_from 0 t)) Fits
-lines t met (lost u) = Broken (length t - length u)
+unfoldable pub lines : List ℕ → Bool → Reading Layout → Result (Unit {0}) Fault
+lines t met (found f u) = cond (met || ltb most_deep (depth f)) (Err (Deep (ninth_from 0 t))) (Ok tt)
+lines t met (lost u) = Err (Broken (length t - length u))
 
 lines_all : (t : List ℕ) (r : Reading Layout) → lines t false r ≡ text_answer (settled_by t r)
 unfolding lines settled_by text_answer
 lines_all t (found f u) = go (leb (depth f) most_deep) refl
   where
-    go : (y : Bool) → leb (depth f) most_deep ≡ y → cond (ltb most_deep (depth f)) (Deep (ninth_from 0 t)) Fits ≡ text_answer (cond y (fits f) (deep (ninth_from 0 t)))
+    go : (y : Bool) → leb (depth f) most_deep ≡ y → cond (ltb most_deep (depth f)) (Err (Deep (ninth_from 0 t))) (Ok tt) ≡ text_answer (cond y (fits f) (deep (ninth_from 0 t)))
     go true e = rw (le-ltb most_deep (depth f) (leb-true (depth f) most_deep e))
     go false e = rw (lt-ltb most_deep (depth f) (leb-false (depth f) most_deep e))
 lines_all t (lost u) = refl
 
-pub settled_long : (t : List ℕ) → most_bytes < length t → Broken most_bytes ≡ text_answer (settled t)
+pub settled_long : (t : List ℕ) → most_bytes < length t → Err (Broken most_bytes) ≡ text_answer (settled t)
 unfolding settled text_answer
 settled_long t h = rw (lt-ltb most_bytes (length t) h)
 
@@ -48,16 +48,16 @@ lines_more met l at f e p s =
 form_next : (l : List ℕ) (at : ℕ) → at < length l → read_layout (drop at l) ≡ (after (form_at (drop at l)) λ f u. after (expect line_feed f u) λ g v. after (read_layout v) λ fs w. found (g ∷ fs) w)
 form_next l at h = rw (cons_at l at h) (layout_more (get_or l at 0) (drop (at + 1) l))
 
-pub lines_no_form : (met : Bool) (l : List ℕ) (at e : ℕ) → at < length l → Leaves (length l) (form_at (drop at l)) e → Broken e ≡ lines l met (read_layout (drop at l))
+pub lines_no_form : (met : Bool) (l : List ℕ) (at e : ℕ) → at < length l → Leaves (length l) (form_at (drop at l)) e → Err (Broken e) ≡ lines l met (read_layout (drop at l))
 unfolding lines after
 lines_no_form met l at e h p = rw (form_next l at h, p.is, p.place)
 
 pub lines_no_line : (met : Bool) (l : List ℕ) (at : ℕ) (f : Form) (e : ℕ) → at < length l → form_at (drop at l) ≡ found f (drop e l) → stands_at line_feed (drop e l) ≡ false → e ≤ length l
-    → Broken e ≡ lines l met (read_layout (drop at l))
+    → Err (Broken e) ≡ lines l met (read_layout (drop at l))
 unfolding lines after
 lines_no_line met l at f e h p s w = rw (form_next l at h, p, stands_not line_feed f (drop e l) s, ends l e w)
 
-pub lines_end : (met : Bool) (l : List ℕ) (at : ℕ) → length l ≤ at → lines l met (read_layout (drop at l)) ≡ cond met (Deep (ninth_from 0 l)) Fits
+pub lines_end : (met : Bool) (l : List ℕ) (at : ℕ) → length l ≤ at → lines l met (read_layout (drop at l)) ≡ cond met (Err (Deep (ninth_from 0 l))) (Ok tt)
 unfolding lines layout_by depth
 lines_end met l at h = rw (drop_of_length-le l {i = at} h, or_none met)
 

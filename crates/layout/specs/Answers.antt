@@ -1,78 +1,48 @@
 -- What the reader's functions answer for what the definitions read: n is the length of the whole text.
 -- Assumes nothing.
-use Rattle.std.specs.Prelude.{Bool, true, false, cond, List, [], ◌∷◌, ℕ, ◌+◌, ◌-◌, ltb, eqb, length}
-use Rattle.layout.specs.Layout.{Object, Task, Objects, depth_of, Form, form_depth, most_deep}
+use Rattle.std.specs.Prelude.{Bool, true, false, cond, Option, None, Some, Result, Ok, Err, List, [], ◌∷◌, ℕ, ◌+◌, ◌-◌, ltb, eqb, length}
+use Rattle.layout.specs.Layout.{Object, Objects, depth_of, Form, form_depth, most_deep}
 use Rattle.layout.specs.Reading.{Reading, found, lost, is_digit, Settled, fits, broken, deep}
-use Rattle.layout.specs.declared.fields.Field.{Field}
-use Rattle.layout.specs.declared.fields.Field.TheVariants.{Number, Missing}
-use Rattle.layout.specs.declared.fields.Heading.{Heading}
-use Rattle.layout.specs.declared.fields.Heading.TheVariants.{Holds, Headless}
-use Rattle.layout.specs.declared.fields.Running.{Running}
-use Rattle.layout.specs.declared.fields.Running.TheVariants.{Runs, Idle}
-use Rattle.layout.specs.declared.Answer.{Answer}
-use Rattle.layout.specs.declared.Answer.TheVariants.{Read, Unread}
-use Rattle.layout.specs.declared.Text.{Text}
-use Rattle.layout.specs.declared.Text.TheVariants.{Fits, Broken, Deep}
+use Rattle.layout.specs.declared.fields.Found.{Found}
+use Rattle.layout.specs.declared.fields.Lost.{Lost}
+use Rattle.layout.specs.declared.Fault.{Fault}
+use Rattle.layout.specs.declared.Fault.TheVariants.{Broken, Deep}
 
--- the digit at the head, and 10 if there is none
-unfoldable pub digit_at : List ℕ → ℕ
-digit_at [] = 10
-digit_at (b ∷ t) = cond (is_digit b) (b - 48) 10
+-- the digit at the head, if there is one
+unfoldable pub digit_at : List ℕ → Option ℕ
+digit_at [] = None
+digit_at (b ∷ t) = cond (is_digit b) (Some (b - 48)) None
 
 -- whether the byte c stands at the head
 unfoldable pub stands_at : ℕ → List ℕ → Bool
 stands_at c [] = false
 stands_at c (b ∷ t) = eqb b c
 
-unfoldable pub field_answer : ℕ → Reading ℕ → Field
-field_answer n (found v u) = Number v (n - length u)
-field_answer n (lost u) = Missing (n - length u)
+-- what was read and where it ends, or where the reader leaves
+unfoldable pub answer : {A : Type 0} → ℕ → Reading A → Result (Found A) Lost
+answer n (found a u) = Ok (record { value = a; end = n - length u })
+answer n (lost u) = Err (record { at = n - length u })
 
--- where the reader left, or where it read on
-unfoldable pub left_field : Field → ℕ
-left_field (Number v end) = end
-left_field (Missing place) = place
-
-unfoldable pub head_answer : ℕ → Reading Object → Heading
-head_answer n (found h u) = Holds h.number h.driver h.level (n - length u)
-head_answer n (lost u) = Headless (n - length u)
-
-unfoldable pub left_head : Heading → ℕ
-left_head (Holds n d l end) = end
-left_head (Headless place) = place
-
-unfoldable pub task_answer : ℕ → Reading Task → Running
-task_answer n (found a u) = Runs a.number a.image a.level a.reads (n - length u)
-task_answer n (lost u) = Idle (n - length u)
-
-unfoldable pub left_task : Running → ℕ
-left_task (Runs n i l r end) = end
-left_task (Idle place) = place
-
-unfoldable pub left_answer : Answer → ℕ
-left_answer (Read end deeper) = end
-left_answer (Unread place) = place
-
--- an object at a level, and whether a ninth level stands in it
-unfoldable pub object_answer : ℕ → ℕ → Reading (Object × Objects) → Answer
-object_answer level n (found f u) = Read (n - length u) (ltb most_deep (level + depth_of f.1))
-object_answer level n (lost u) = Unread (n - length u)
+-- an object at a level: whether a ninth level stands in it
+unfoldable pub object_answer : ℕ → ℕ → Reading (Object × Objects) → Result (Found Bool) Lost
+object_answer level n (found f u) = Ok (record { value = ltb most_deep (level + depth_of f.1); end = n - length u })
+object_answer level n (lost u) = Err (record { at = n - length u })
 
 -- the objects in one at a level
-unfoldable pub objects_answer : ℕ → ℕ → Reading Objects → Answer
-objects_answer level n (found fs u) = Read (n - length u) (ltb most_deep (level + depth_of fs))
-objects_answer level n (lost u) = Unread (n - length u)
+unfoldable pub objects_answer : ℕ → ℕ → Reading Objects → Result (Found Bool) Lost
+objects_answer level n (found fs u) = Ok (record { value = ltb most_deep (level + depth_of fs); end = n - length u })
+objects_answer level n (lost u) = Err (record { at = n - length u })
 
 -- an object past the eighth level
-unfoldable pub nest_answer : ℕ → Reading (Object × Objects) → Answer
-nest_answer n (found f u) = Read (n - length u) true
-nest_answer n (lost u) = Unread (n - length u)
+unfoldable pub nest_answer : ℕ → Reading (Object × Objects) → Result (Found Bool) Lost
+nest_answer n (found f u) = Ok (record { value = true; end = n - length u })
+nest_answer n (lost u) = Err (record { at = n - length u })
 
-unfoldable pub form_answer : ℕ → Reading Form → Answer
-form_answer n (found f u) = Read (n - length u) (ltb most_deep (form_depth f))
-form_answer n (lost u) = Unread (n - length u)
+unfoldable pub form_answer : ℕ → Reading Form → Result (Found Bool) Lost
+form_answer n (found f u) = Ok (record { value = ltb most_deep (form_depth f); end = n - length u })
+form_answer n (lost u) = Err (record { at = n - length u })
 
-unfoldable pub text_answer : Settled → Text
-text_answer (fits f) = Fits
-text_answer (broken place) = Broken place
-text_answer (deep place) = Deep place
+unfoldable pub text_answer : Settled → Result (Unit {0}) Fault
+text_answer (fits f) = Ok tt
+text_answer (broken place) = Err (Broken place)
+text_answer (deep place) = Err (Deep place)

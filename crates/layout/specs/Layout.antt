@@ -4,18 +4,11 @@ use Rattle.std.specs.Prelude.{cond, List, [], ◌∷◌, ◌++◌, ℕ, ◌+◌,
 
 -- ---- a layout
 
--- the numbers that an object's form names
-pub record Object : Type 0 where
-  pub number : ℕ
-  pub driver : ℕ
-  pub level : ℕ
+-- the numbers that an object's form names: its number, its driver's and its level
+pub use Rattle.layout.specs.declared.fields.Object.{Object}
 
--- the numbers that a task's form names
-pub record Task : Type 0 where
-  pub number : ℕ
-  pub image : ℕ
-  pub level : ℕ
-  pub reads : ℕ
+-- the numbers that a task's form names: its number, its image's, its level and the level that it reads
+pub use Rattle.layout.specs.declared.fields.Task.{Task}
 
 -- objects side by side: the first one, what it holds, and those after it
 pub data Objects : Type 0 where

@@ -1,21 +1,15 @@
 -- The calls of a text as the code comes upon them: in file order, with the open objects in hand.
 -- Assumes nothing.
-use Rattle.std.specs.Prelude.{cond, List, [], ◌∷◌, ◌++◌, ℕ, zero, suc, ◌+◌, ◌*◌, ltb, eqb, length, get_or}
-use Rattle.layout.specs.Layout.{Object, Task, most_deep, line_feed, closing}
+use Rattle.std.specs.Prelude.{cond, List, [], ◌∷◌, ◌++◌, ℕ, zero, suc, ltb, eqb, length}
+use Rattle.layout.specs.Layout.{most_deep, line_feed, closing}
+use Rattle.layout.specs.declared.fields.Object.{Object}
+use Rattle.layout.specs.declared.fields.Task.{Task}
 use Rattle.layout.specs.Reading.{Reading, found, lost, head, task_at}
 use Rattle.layout.specs.Answers.{stands_at}
 use Rattle.model.specs.declared.Call.{Call}
 use Rattle.model.specs.declared.Call.TheVariants.{Write, Execute, Create, CreateRoot}
-
 -- an open object: its own number and its driver's
-pub record Holder : Type 0 where
-  pub number : ℕ
-  pub driver : ℕ
-
--- the first k pairs of a number and a driver, the last one first
-unfoldable pub holders : List ℕ → ℕ → List Holder
-holders hs zero = []
-holders hs (suc k) = record { number = get_or hs (2 * k) 0; driver = get_or hs (2 * k + 1) 0 } ∷ holders hs k
+pub use Rattle.loading.specs.declared.Holder.{Holder}
 
 -- an object's own calls: in the innermost open object, or a root where none is open
 unfoldable pub object_calls : List Holder → Object → List Call

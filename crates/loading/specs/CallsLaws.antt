@@ -1,10 +1,14 @@
 -- What the calls of a text are at each form, and that those of a layout's text are the layout's.
 -- Assumes nothing.
-use Rattle.std.specs.Prelude.{◌≡◌, true, false, cond, List, [], ◌∷◌, ◌++◌, ℕ, zero, suc, ◌+◌, ◌-◌, ◌*◌, ◌≤◌, ◌<◌, ltb, length, get_or, set}
+use Rattle.std.specs.Prelude.{◌≡◌, true, false, cond, List, [], ◌∷◌, ◌++◌, ℕ, zero, suc, ◌+◌, ◌-◌, ◌≤◌, ◌<◌, ltb, length, get_or, take, set, reverse}
 use Rattle.std.proofs.Math.Path.{refl}
-use Rattle.std.proofs.Common.{ap, ◌∙◌, append_assoc, add-one, arith, length-set, get_or-set_same, get_or-set_other, ne_eqb, lt-ltb, le-ltb}
+use Rattle.std.proofs.Common.{sym, ap, ◌∙◌, append_assoc, arith, drop-cons, ne_eqb, lt-ltb, le-ltb}
+use Rattle.std.proofs.lemmas.List.{reverse-append, length-reverse, get_or-reverse, take_more_set, length-take-le}
+use Rattle.std.proofs.Math.Seq.{take-suc}
 use Rattle.std.proofs.lemmas.Bool.{eqb-false}
-use Rattle.layout.specs.Layout.{Object, Task, Objects, none, object, root, task, Layout, depth_of, form_depth, depth, most_deep, ObjectFits, TaskFits, ObjectsFit, FormFits, Fits, line_feed, opening, closing, object_word, task_word, field_text, head_text, inner_text, object_text, task_text, form_text, written}
+use Rattle.layout.specs.Layout.{Objects, none, object, root, task, Layout, depth_of, form_depth, depth, most_deep, ObjectFits, TaskFits, ObjectsFit, FormFits, Fits, line_feed, opening, closing, object_word, task_word, field_text, head_text, inner_text, object_text, task_text, form_text, written}
+use Rattle.layout.specs.declared.fields.Object.{Object}
+use Rattle.layout.specs.declared.fields.Task.{Task}
 use Rattle.layout.specs.Reading.{Reading, found, lost, head, task_at}
 use Rattle.layout.specs.Answers.{stands_at}
 use Rattle.layout.proofs.NumberLaws.{head_written, head_read, head_longer, task_written, task_read, task_longer}
@@ -12,47 +16,34 @@ use Rattle.layout.proofs.ReadingLaws.{inner_starts}
 use Rattle.model.specs.declared.Call.{Call}
 use Rattle.model.specs.declared.Call.TheVariants.{CreateRoot}
 use Rattle.model.specs.Load.{inner_calls, form_calls, layout_calls}
-use Rattle.loading.specs.Calls.{Holder, holders, object_calls, task_calls, closed, tasked, held, calls_by, calls_from, calls_in}
+use Rattle.loading.specs.Calls.{Holder, object_calls, task_calls, closed, tasked, held, calls_by, calls_from, calls_in}
 
 -- ---- the open objects
 
-pub holders_top : (hs : List ℕ) (k : ℕ) → (k ≡ 0 → ⊥) → holders hs k ≡ record { number = get_or hs (2 * k - 2) 0; driver = get_or hs (2 * k - 1) 0 } ∷ holders hs (k - 1)
-unfolding holders
-holders_top hs zero n = absurd (n refl)
-holders_top hs (suc k) n =
-    let e : suc k - 1 ≡ k = omega arith in
-    let f : 2 * suc k - 2 ≡ 2 * k = omega arith in
-    let g : 2 * suc k - 1 ≡ 2 * k + 1 = omega arith in
-    rw (e, f, g)
-
--- a pair past the open ones changes none of them
-holders_kept : (hs : List ℕ) (i a k : ℕ) → 2 * k ≤ i → holders (set hs i a) k ≡ holders hs k
-unfolding holders
-holders_kept hs i a zero h = refl
-holders_kept hs i a (suc k) h =
-    rw (get_or-set_other hs i (2 * k) a 0 (λ e. omega arith), get_or-set_other hs i (2 * k + 1) a 0 (λ e. omega arith), holders_kept hs i a k (omega arith))
-
-pub holders_push : (hs : List ℕ) (n d k : ℕ) → 2 * k + 1 < length hs → holders (set (set hs (2 * k) n) (2 * k + 1) d) (k + 1) ≡ record { number = n; driver = d } ∷ holders hs k
-unfolding holders
-holders_push hs n d k p =
-    let h = set hs (2 * k) n in
-    let number : get_or (set h (2 * k + 1) d) (2 * k) 0 ≡ n = get_or-set_other h (2 * k + 1) (2 * k) d 0 (λ e. omega arith) ∙ get_or-set_same hs (2 * k) n 0 (omega arith) in
-    let driver : get_or (set h (2 * k + 1) d) (2 * k + 1) 0 ≡ d = get_or-set_same h (2 * k + 1) d 0 (simp length-set p) in
-    rw (add-one k) (rw (number, driver, holders_kept h (2 * k + 1) d k (omega arith), holders_kept hs (2 * k) n k (omega arith)))
-
-pub holders_length : (hs : List ℕ) (k : ℕ) → length (holders hs k) ≡ k
-unfolding holders
-holders_length hs zero = refl
-holders_length hs (suc k) = ap suc (holders_length hs k)
-
 -- an object's own calls name the innermost one, if one is open
-pub object_root : (hs : List ℕ) (k : ℕ) (h : Object) → k ≡ 0 → object_calls (holders hs k) h ≡ CreateRoot 0 h.driver h.number h.level ∷ []
-unfolding holders object_calls
-object_root hs k h e = rw e
-
-pub object_within : (hs : List ℕ) (k : ℕ) (h : Object) → (k ≡ 0 → ⊥) → object_calls (holders hs k) h ≡ object_calls (record { number = get_or hs (2 * k - 2) 0; driver = get_or hs (2 * k - 1) 0 } ∷ []) h
+pub object_root : (hs : List Holder) (h : Object) → length hs ≡ 0 → object_calls (reverse hs) h ≡ CreateRoot 0 h.driver h.number h.level ∷ []
 unfolding object_calls
-object_within hs k h n = rw (holders_top hs k n)
+object_root [] h e = refl
+object_root (c ∷ hs) h e = absurd (omega arith)
+
+pub object_within : (hs : List Holder) (c : Holder) (h : Object) → 0 < length hs → c ≡ get_or hs (length hs - 1) c → object_calls (c ∷ []) h ≡ object_calls (reverse hs) h
+unfolding object_calls
+object_within hs c h n e =
+    let last : length hs - 1 - 0 ≡ length hs - 1 = omega arith in
+    let top : get_or (reverse hs) 0 c ≡ c = get_or-reverse hs 0 c n ∙ rw last (sym e) in
+    rw (drop-cons (reverse hs) 0 c (rw (length-reverse hs) n), top)
+
+-- the last one of k closes
+pub one_closes : (hs : List Holder) (k : ℕ) (c : Holder) → 0 < k → k ≤ length hs → reverse (take k hs) ≡ get_or hs (k - 1) c ∷ reverse (take (k - 1) hs)
+one_closes hs zero c z w = absurd (omega arith)
+one_closes hs (suc k) c z w = let e : suc k - 1 ≡ k = omega arith in rw (e, take-suc hs k c (omega arith), reverse-append (take k hs) (get_or hs k c ∷ []))
+
+-- one more opens
+pub one_opens : (hs : List Holder) (k : ℕ) (c : Holder) → k < length hs → c ∷ reverse (take k hs) ≡ reverse (take (k + 1) (set hs k c))
+one_opens hs k c w = rw (take_more_set hs k c w, reverse-append (take k hs) (c ∷ []))
+
+pub open_length : (hs : List Holder) (k : ℕ) → k ≤ length hs → length (reverse (take k hs)) ≡ k
+open_length hs k w = length-reverse (take k hs) ∙ length-take-le k hs w
 
 -- ---- what is read is shorter
 

@@ -1,6 +1,6 @@
 -- A form in the text, and what its calls come to.
 -- Assumes nothing.
-use Rattle.std.specs.Prelude.{◌≡◌, Bool, true, false, List, ℕ, ◌+◌, ◌≤◌, ◌<◌, length, get_or, drop}
+use Rattle.std.specs.Prelude.{◌≡◌, Bool, true, false, Result, Ok, Err, List, ℕ, ◌+◌, ◌≤◌, ◌<◌, length, get_or, drop}
 use Rattle.levels.specs.declared.Order.{Order}
 use Rattle.layout.specs.Layout.{line_feed, closing}
 use Rattle.layout.specs.Answers.{stands_at}
@@ -9,8 +9,6 @@ use Rattle.model.specs.State.{Memory}
 use Rattle.model.specs.Ready.{Ready}
 use Rattle.model.specs.Events.{Outcome}
 use Rattle.model.specs.Load.{in_turn}
-use Rattle.loading.specs.declared.Turn.{Turn}
-use Rattle.loading.specs.declared.Turn.TheVariants.{GoesOn, Ends}
 
 -- a form begins at the place: a task, or an object
 abbrev pub FormAt : Bool → List ℕ → ℕ → Type 0
@@ -22,12 +20,11 @@ TaskAt t at = FormAt true t at
 abbrev pub ObjectAt : List ℕ → ℕ → Type 0
 ObjectAt t at = FormAt false t at
 
--- the calls that are left at each place, on a memory; or the end
-unfoldable pub turned : Order → (ℕ → List Call) → Turn → Memory → Outcome
-turned o calls (GoesOn e) m = in_turn o (calls e) m
-turned o calls (Ends v) m = record { verdict = v; rounds = 0; memory = m }
+-- the calls that are left after what was made, on a memory; or the end
+unfoldable pub turned : {A : Type 0} → Order → (A → List Call) → Result A ℕ → Memory → Outcome
+turned o calls (Ok a) m = in_turn o (calls a) m
+turned o calls (Err v) m = record { verdict = v; rounds = 0; memory = m }
 
 -- what goes on, goes on further on in the text, and on a memory that is ready
-unfoldable pub Further : Order → List ℕ → ℕ → Turn → List ℕ → List ℕ → Type 0
-Further o t at (GoesOn e) bs ws = (at < e) × (e ≤ length t) × Ready o bs ws
-Further o t at (Ends v) bs ws = Unit {0}
+abbrev pub Further : Order → List ℕ → ℕ → ℕ → List ℕ → List ℕ → Type 0
+Further o t at end bs ws = (at < end) × (end ≤ length t) × Ready o bs ws

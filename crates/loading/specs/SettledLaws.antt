@@ -1,6 +1,6 @@
 -- What the reader's answer to a text tells: what the text settles, the places of its faults, and a load of it past row 3.
 -- Assumes nothing.
-use Rattle.std.specs.Prelude.{◌≡◌, refl, Bool, true, false, ◌⊎◌, ℕ, ◌≤◌, ltb, length}
+use Rattle.std.specs.Prelude.{◌≡◌, refl, Bool, true, false, Ok, Err, ◌⊎◌, ℕ, ◌≤◌, ltb, length}
 use Rattle.std.proofs.Common.{sym, ◌∙◌, inl, inr, arith, ltb-false}
 use Rattle.std.proofs.Math.Path.{ap}
 use mathlib.Core.List.{List}
@@ -9,7 +9,7 @@ use Rattle.layout.specs.Layout.{Layout, most_bytes}
 use Rattle.layout.specs.Reading.{Settled, fits, broken, deep, settled}
 use Rattle.layout.specs.Answers.{text_answer}
 use Rattle.layout.proofs.Proved.{settles_all, place_within}
-use Rattle.layout.specs.declared.Text.TheVariants.{Fits, Broken, Deep}
+use Rattle.layout.specs.declared.Fault.TheVariants.{Broken, Deep}
 use Rattle.model.specs.declared.Call.{Call}
 use Rattle.model.specs.Verdicts.{row_form, row_deep}
 use Rattle.model.specs.Events.{Outcome}
@@ -20,22 +20,22 @@ use Rattle.loading.specs.CallsLaws.{layout_calls_law}
 
 -- ---- what the text settles
 
-pub told_fits : (r : Settled) → text_answer r ≡ Fits → (f : Layout) × (r ≡ fits f)
+pub told_fits : (r : Settled) → text_answer r ≡ Ok tt → (f : Layout) × (r ≡ fits f)
 unfolding text_answer
 told_fits (fits f) e = (f, refl)
-told_fits (broken p) e = let z : ◌≡◌ {A = ℕ} 0 1 = cc in absurd (omega arith)
-told_fits (deep p) e = let z : ◌≡◌ {A = ℕ} 0 1 = cc in absurd (omega arith)
+told_fits (broken p) e = absurd (cc)
+told_fits (deep p) e = absurd (cc)
 
-pub told_broken : (r : Settled) (place : ℕ) → text_answer r ≡ Broken place → r ≡ broken place
+pub told_broken : (r : Settled) (place : ℕ) → text_answer r ≡ Err (Broken place) → r ≡ broken place
 unfolding text_answer
-told_broken (fits f) place e = let z : ◌≡◌ {A = ℕ} 0 1 = cc in absurd (omega arith)
+told_broken (fits f) place e = absurd (cc)
 told_broken (broken p) place e = let q : p ≡ place = cc in ap broken q
-told_broken (deep p) place e = let z : ◌≡◌ {A = ℕ} 0 1 = cc in absurd (omega arith)
+told_broken (deep p) place e = absurd (cc)
 
-pub told_deep : (r : Settled) (place : ℕ) → text_answer r ≡ Deep place → r ≡ deep place
+pub told_deep : (r : Settled) (place : ℕ) → text_answer r ≡ Err (Deep place) → r ≡ deep place
 unfolding text_answer
-told_deep (fits f) place e = let z : ◌≡◌ {A = ℕ} 0 1 = cc in absurd (omega arith)
-told_deep (broken p) place e = let z : ◌≡◌ {A = ℕ} 0 1 = cc in absurd (omega arith)
+told_deep (fits f) place e = absurd (cc)
+told_deep (broken p) place e = absurd (cc)
 told_deep (deep p) place e = let q : p ≡ place = cc in ap deep q
 
 -- the place of a fault is at most 16,384
@@ -57,17 +57,17 @@ place_small t place e = go (ltb most_bytes (length t)) refl
 
 module _ (o : Order) (t : List ℕ) where
   -- the calls are the layout's
-  pub settled_fits : text_answer (settled t) ≡ Fits → ◌≡◌ {A = Outcome} (laid_out o (settled t)) (whole o (in_turn o (calls_in t) (started o)))
+  pub settled_fits : text_answer (settled t) ≡ Ok tt → ◌≡◌ {A = Outcome} (laid_out o (settled t)) (whole o (in_turn o (calls_in t) (started o)))
   unfolding laid_out
   settled_fits e =
       let f = told_fits (settled t) e in
       let q = (settles_all t f.0).0 f.1 in
       rw f.1 (ap (λ (cs : List Call). whole o (in_turn o cs (started o))) (sym (layout_calls_law f.0 q.0 q.2) ∙ ap calls_in q.1))
 
-  pub settled_broken : (place : ℕ) → text_answer (settled t) ≡ Broken place → ◌≡◌ {A = Outcome} (laid_out o (settled t)) (refusal row_form (started o))
+  pub settled_broken : (place : ℕ) → text_answer (settled t) ≡ Err (Broken place) → ◌≡◌ {A = Outcome} (laid_out o (settled t)) (refusal row_form (started o))
   unfolding laid_out
   settled_broken place e = rw (told_broken (settled t) place e)
 
-  pub settled_deep : (place : ℕ) → text_answer (settled t) ≡ Deep place → ◌≡◌ {A = Outcome} (laid_out o (settled t)) (refusal row_deep (started o))
+  pub settled_deep : (place : ℕ) → text_answer (settled t) ≡ Err (Deep place) → ◌≡◌ {A = Outcome} (laid_out o (settled t)) (refusal row_deep (started o))
   unfolding laid_out
   settled_deep place e = rw (told_deep (settled t) place e)

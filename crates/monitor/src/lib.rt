@@ -14,7 +14,7 @@ ghost use Rattle.calls.specs.Entered.{ToldEntry, LoadEntry};
 ghost use Rattle.calls.specs.Ends.{ended, Performs, Loads};
 
 use calls::Request;
-use layout::Text;
+use layout::Fault;
 use levels::Order;
 use model::{Answer, Checked, Report, Tally};
 use tallies::Entry;
@@ -78,15 +78,15 @@ pub extern "C" fn tupehiwo_layout(text: &[u8]) -> Checked
     ensures { result ≡ layout_checked text.now }
 {
     match layout::check(text) {
-        Text::Fits => Checked {
+        Ok(()) => Checked {
             offset: text.len() as u32,
             verdict: model::GRANTED,
         },
-        Text::Broken { at } => Checked {
+        Err(Fault::Broken { at }) => Checked {
             offset: at as u32,
             verdict: model::FORM,
         },
-        Text::Deep { at } => Checked {
+        Err(Fault::Deep { at }) => Checked {
             offset: at as u32,
             verdict: model::DEEP,
         },

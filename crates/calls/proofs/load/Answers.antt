@@ -17,25 +17,25 @@ make-requires c =
     let made = start_made c.args.order _ c.args.text.now c.start-begun.ensures c.if-begun-gt-SLIPPED.false in
     started_ready c.args.order _ made.1 made.2
 
-pub returns-in-Fits : goal.returns-in-Fits
-returns-in-Fits c =
+pub returns-in-Ok : goal.returns-in-Ok
+returns-in-Ok c =
     let a = c.args in
     let made = start_made a.order _ a.text.now c.start-begun.ensures c.if-begun-gt-SLIPPED.false in
     c.make.ensures ∙ ap (λ (v : Memory). whole a.order (in_turn a.order (calls_in a.text.now) v)) made.2
-    ∙ sym (settled_fits a.order a.text.now (sym c.check.ensures ∙ c.in-Fits.is)) ∙ load_laid a.order _ a.text.now made.0 made.1
+    ∙ sym (settled_fits a.order a.text.now (sym c.check.ensures ∙ c.in-Ok.is)) ∙ load_laid a.order _ a.text.now made.0 made.1
 
-pub returns-in-Broken : goal.returns-in-Broken
+pub returns-in-Err-Broken : goal.returns-in-Err-Broken
 unfolding refusal
-returns-in-Broken c =
+returns-in-Err-Broken c =
     let a = c.args in
     let made = start_made a.order _ a.text.now c.start-begun.ensures c.if-begun-gt-SLIPPED.false in
     ap (λ (v : Memory). record { verdict = row_form; rounds = 0; memory = v }) made.2
-    ∙ sym (settled_broken a.order a.text.now _ (sym c.check.ensures ∙ c.in-Broken.is)) ∙ load_laid a.order _ a.text.now made.0 made.1
+    ∙ sym (settled_broken a.order a.text.now _ (rw c.in-Err-Broken.field-0-is at (sym c.check.ensures ∙ c.in-Err-Broken.is))) ∙ load_laid a.order _ a.text.now made.0 made.1
 
-pub returns-in-Deep : goal.returns-in-Deep
+pub returns-in-Err-Deep : goal.returns-in-Err-Deep
 unfolding refusal
-returns-in-Deep c =
+returns-in-Err-Deep c =
     let a = c.args in
     let made = start_made a.order _ a.text.now c.start-begun.ensures c.if-begun-gt-SLIPPED.false in
     ap (λ (v : Memory). record { verdict = row_deep; rounds = 0; memory = v }) made.2
-    ∙ sym (settled_deep a.order a.text.now _ (sym c.check.ensures ∙ c.in-Deep.is)) ∙ load_laid a.order _ a.text.now made.0 made.1
+    ∙ sym (settled_deep a.order a.text.now _ (rw c.in-Err-Deep.field-0-is at (sym c.check.ensures ∙ c.in-Err-Deep.is))) ∙ load_laid a.order _ a.text.now made.0 made.1

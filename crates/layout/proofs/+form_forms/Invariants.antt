@@ -10,8 +10,8 @@ decreases-form l = length l.text.now - l.at
 abbrev pub decreases-forms : goal.decreases-forms
 decreases-forms l = length l.text.now - l.at
 
-abbrev pub invariant-forms-loop-inner : goal.invariant-forms-loop-inner
-invariant-forms-loop-inner l = (l.fn.at ≤ l.next) × (l.next ≤ length l.text) × (objects_answer l.fn.level (length l.text) (objects_at (drop l.fn.at l.text)) ≡ rest l.met l.fn.level (length l.text) (objects_at (drop l.next l.text)))
+abbrev pub invariant-forms-loop-next : goal.invariant-forms-loop-next
+invariant-forms-loop-next l = (l.fn.at ≤ l.next) × (l.next ≤ length l.text) × (objects_answer l.fn.level (length l.text) (objects_at (drop l.fn.at l.text)) ≡ rest l.met l.fn.level (length l.text) (objects_at (drop l.next l.text)))
 
-abbrev pub decreases-forms-loop-inner : goal.decreases-forms-loop-inner
-decreases-forms-loop-inner l = length l.text - l.next
+abbrev pub decreases-forms-loop-next : goal.decreases-forms-loop-next
+decreases-forms-loop-next l = length l.text - l.next

@@ -3,18 +3,14 @@ use Rattle.layout.specs.Layout.{opening, closing}
 use Rattle.layout.specs.Reading.{opened}
 use Rattle.layout.proofs.opened_by.Goals as goal
 
-pub returns-then-b-eq40 : goal.returns-then-b-eq40
+pub returns-in-40 : goal.returns-in-40
 unfolding opened
-returns-then-b-eq40 c = rw (eq-eqb c.args.b opening c.if-b-eq40.true)
+returns-in-40 c = rw (eq-eqb c.args.b opening c.in-40.is)
 
-pub returns-then-b-ne41 : goal.returns-then-b-ne41
+pub returns-in-41 : goal.returns-in-41
 unfolding opened
-returns-then-b-ne41 c = rw (ne_eqb c.args.b opening c.if-b-eq40.false, ne_eqb c.args.b closing c.if-b-ne41.true)
+returns-in-41 c = rw c.in-41.is c.saturating_sub.ensures
 
-pub returns-then-held-gt0 : goal.returns-then-held-gt0
+pub returns-in_default : goal.returns-in_default
 unfolding opened
-returns-then-held-gt0 c = rw (ne_eqb c.args.b opening c.if-b-eq40.false, eq-eqb c.args.b closing c.if-b-ne41.false)
-
-pub returns-else-held-gt0 : goal.returns-else-held-gt0
-unfolding opened
-returns-else-held-gt0 c = rw (ne_eqb c.args.b opening c.if-b-eq40.false, eq-eqb c.args.b closing c.if-b-ne41.false) (omega arith)
+returns-in_default c = rw (ne_eqb c.args.b opening (λ e. omega arith), ne_eqb c.args.b closing (λ e. omega arith))

@@ -1,4 +1,4 @@
-use Rattle.std.proofs.Common.{List, refl, sym, ap, ◌∙◌}
+use Rattle.std.proofs.Common.{List, refl, sym, ap, ◌∙◌, arith}
 use Rattle.model.specs.declared.Call.{Call}
 use Rattle.model.specs.declared.Call.TheVariants.{CreateRoot}
 use Rattle.model.specs.State.{memory}
@@ -8,16 +8,17 @@ use Rattle.loading.specs.CallsLaws.{object_root, object_within}
 use Rattle.loading.specs.TurnLaws.{as_call, call_last}
 use Rattle.loading.proofs.create.Goals as goal
 
-pub returns-then-depth-eq0 : goal.returns-then-depth-eq0
+pub returns-in_default : goal.returns-in_default
 unfolding create_root
-returns-then-depth-eq0 c =
+returns-in_default c =
     let a = c.args in
     let m = memory a.bytes.now a.words.now in
-    let call = CreateRoot 0 a.driver a.number a.level in
-    c.create_root.ensures ∙ call_last a.order m call (create_root a.order m 0 a.driver a.number a.level) refl refl (as_call a.order m call c.requires.0 refl refl)
-    ∙ ap (λ (cs : List Call). in_turn a.order cs m) (sym (object_root a.held.now a.depth _ c.if-depth-eq0.true))
+    let o = a.object in
+    let call = CreateRoot 0 o.driver o.number o.level in
+    c.create_root.ensures ∙ call_last a.order m call (create_root a.order m 0 o.driver o.number o.level) refl refl (as_call a.order m call c.requires refl refl)
+    ∙ ap (λ (cs : List Call). in_turn a.order cs m) (sym (object_root a.open.now o (omega (arith, c.in_default.ensures.item))))
 
 pub returns : goal.returns
 returns c =
     let a = c.args in
-    c.create_in.ensures ∙ ap (λ (cs : List Call). in_turn a.order cs (memory a.bytes.now a.words.now)) (sym (object_within a.held.now a.depth _ c.if-depth-eq0.false))
+    c.create_in.ensures ∙ ap (λ (cs : List Call). in_turn a.order cs (memory a.bytes.now a.words.now)) (object_within a.open.now _ a.object (omega (arith, c.in-Some.ensures.item)) c.in-Some.ensures.item.1)

@@ -1,6 +1,6 @@
 use Rattle.std.proofs.Common.{◌≡◌, List, [], ℕ, refl, sym, ◌∙◌}
 use Rattle.levels.specs.declared.Order.{Order}
-use Rattle.layout.specs.Layout.{Task}
+use Rattle.layout.specs.declared.fields.Task.{Task}
 use Rattle.layout.proofs.PlaceLaws.{task_got}
 use Rattle.model.specs.declared.Call.TheVariants.{Execute}
 use Rattle.model.specs.State.{memory}
@@ -8,7 +8,7 @@ use Rattle.model.specs.Ready.{Ready}
 use Rattle.model.specs.Events.{left, outcome, execute}
 use Rattle.model.specs.Load.{in_turn}
 use Rattle.loading.specs.Calls.{task_calls}
-use Rattle.loading.specs.Forms.{Further, turned}
+use Rattle.loading.specs.Forms.{turned}
 use Rattle.loading.specs.TurnLaws.{as_call, call_last, turn_stops, turn_goes, turn_ready, turn_none}
 use Rattle.loading.specs.FormLaws.{no_task, task_calls_law, further}
 use Rattle.loading.proofs.task.Goals as goal
@@ -23,40 +23,26 @@ ran o bs ws a r e =
     let call = Execute 0 a.image a.number a.level a.reads in
     e ∙ call_last o m call (execute o m 0 a.image a.number a.level a.reads) refl refl (as_call o m call r refl refl)
 
-pub returns-in_default-clause-further : goal.returns-in_default-clause-further
-unfolding Further
-returns-in_default-clause-further c = tt
-
 pub returns-in_default-clause-words_after : goal.returns-in_default-clause-words_after
 unfolding turned
 returns-in_default-clause-words_after c =
     let a = c.args in
-    λ s. turn_none a.order a.bytes.now a.words.now _ (no_task s a.text.now a.at c.requires.1 _ (sym c.task_at.ensures ∙ c.in_default.is))
-
-pub returns-then-verdict-gt-SLIPPED-clause-further : goal.returns-then-verdict-gt-SLIPPED-clause-further
-unfolding Further
-returns-then-verdict-gt-SLIPPED-clause-further c = tt
+    λ s. turn_none a.order a.bytes.now a.words.now _ (no_task s a.text.now a.at c.requires.1 _ (sym c.in_default.ensures))
 
 pub returns-then-verdict-gt-SLIPPED-clause-words_after : goal.returns-then-verdict-gt-SLIPPED-clause-words_after
 unfolding turned
 returns-then-verdict-gt-SLIPPED-clause-words_after c =
     let a = c.args in
-    let n = c.in-Runs in
-    let r : Task = record { number = n.number; image = n.image; level = n.level; reads = n.reads } in
-    λ s. turn_stops a.order _ _ _ _ (task_calls_law s a.text.now a.at c.requires.1 _ _ _ _ _ (sym c.task_at.ensures ∙ n.is)) (ran a.order a.bytes.now a.words.now r c.requires.0 c.execute-verdict.ensures) c.if-verdict-gt-SLIPPED.true
+    λ s. turn_stops a.order _ _ _ _ (task_calls_law s a.text.now a.at c.requires.1 _ (sym c.in-Ok.ensures)) (ran a.order a.bytes.now a.words.now _ c.requires.0 c.execute-verdict.ensures) c.if-verdict-gt-SLIPPED.true
 
 pub returns-clause-further : goal.returns-clause-further
 returns-clause-further c =
     let a = c.args in
-    let n = c.in-Runs in
-    let r : Task = record { number = n.number; image = n.image; level = n.level; reads = n.reads } in
-    further a.order a.text.now a.at n.end _ _ (task_got a.text.now a.at _ _ _ _ _ (sym c.task_at.ensures ∙ n.is))
-    (turn_ready a.order _ _ _ _ (task_calls_law [] a.text.now a.at c.requires.1 _ _ _ _ _ (sym c.task_at.ensures ∙ n.is)) (ran a.order a.bytes.now a.words.now r c.requires.0 c.execute-verdict.ensures) c.requires.0)
+    further a.order a.text.now a.at _ _ _ (task_got a.text.now a.at _ (sym c.in-Ok.ensures))
+    (turn_ready a.order _ _ _ _ (task_calls_law [] a.text.now a.at c.requires.1 _ (sym c.in-Ok.ensures)) (ran a.order a.bytes.now a.words.now _ c.requires.0 c.execute-verdict.ensures) c.requires.0)
 
 pub returns-clause-words_after : goal.returns-clause-words_after
 unfolding turned
 returns-clause-words_after c =
     let a = c.args in
-    let n = c.in-Runs in
-    let r : Task = record { number = n.number; image = n.image; level = n.level; reads = n.reads } in
-    λ s. turn_goes a.order _ _ _ _ (task_calls_law s a.text.now a.at c.requires.1 _ _ _ _ _ (sym c.task_at.ensures ∙ n.is)) (ran a.order a.bytes.now a.words.now r c.requires.0 c.execute-verdict.ensures) c.if-verdict-gt-SLIPPED.false
+    λ s. turn_goes a.order _ _ _ _ (task_calls_law s a.text.now a.at c.requires.1 _ (sym c.in-Ok.ensures)) (ran a.order a.bytes.now a.words.now _ c.requires.0 c.execute-verdict.ensures) c.if-verdict-gt-SLIPPED.false
