@@ -48,7 +48,7 @@ pub struct Answer {
 
 // A tally record: how many calls were granted, slipped and refused.
 #[repr(C)]
-#[derive(Clone, Copy)]
+#[derive(Clone, Copy, Default)]
 pub struct Tally {
     pub granted: u32,
     pub slipped: u32,
