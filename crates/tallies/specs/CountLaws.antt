@@ -1,7 +1,7 @@
 -- How a list of plain numbers changes, read as a list of tallies.
 -- Assumes nothing.
-use Rattle.std.specs.Prelude.{◌≡◌, refl, List, [], ◌∷◌, ◌++◌, ℕ, zero, suc, ◌+◌, ◌*◌, ◌/◌, ◌<◌, ◌≤◌, length, replicate, take, drop, get_or, set}
-use Rattle.std.proofs.Common.{sym, ap, ◌∙◌, not-suc-le-zero, le_of_suc-le-suc, arith, append-nil, drop_of_length-le, length-take}
+use Rattle.std.specs.Prelude.{◌≡◌, refl, List, [], ◌∷◌, ◌++◌, ℕ, zero, suc, ◌+◌, ◌*◌, ◌/◌, ◌<◌, ◌≤◌, length, replicate, drop, get_or, set}
+use Rattle.std.proofs.Common.{sym, ap, ◌∙◌, not-suc-le-zero, le_of_suc-le-suc, arith, append-nil, drop_of_length-le}
 use Rattle.std.proofs.Math.ListN.{length-set}
 use Rattle.model.specs.declared.Tally.{Tally}
 use Rattle.model.specs.Tallies.{nothing_counted, raised, raised_at}
@@ -15,10 +15,6 @@ records_count [] = refl
 records_count (g ∷ []) = refl
 records_count (g ∷ s ∷ []) = refl
 records_count (g ∷ s ∷ r ∷ ns) = let e = records_count ns in omega arith
-
--- the first numbers are there
-pub cut : (k : ℕ) (ns : List ℕ) → k ≤ length (records_in ns) → 3 * k ≡ length (take (3 * k) ns)
-cut k ns l = omega (arith, length-take (3 * k) ns, records_count ns)
 
 -- ---- one record further on stand three numbers more
 
