@@ -73,6 +73,7 @@ pub struct Checked {
 }
 
 // The verdicts, in the order of their numbers.
+// By hand: numbers, since C reads them, the table's entries hold them, and the definitions of specs/Verdicts are numbers.
 pub const GRANTED: u8 = 0;
 
 pub const SLIPPED: u8 = 1;
@@ -108,6 +109,7 @@ pub const DEEP: u8 = 15;
 pub const FEEDING: u8 = 16;
 
 // The told word.
+// By hand: a number, since C reads it, and the definitions of specs/Told are numbers.
 pub const NO_WORD: u8 = 0;
 
 pub const TOLD_YES: u8 = 1;

@@ -8,7 +8,6 @@ ghost use Rattle.model.specs.Told.{yes_or_no};
 use model::Call;
 
 // Yes for what is granted, and no for all else, a slip too.
-// By hand: the word is one of C's numbers, since Answer is lent to C as it is.
 #[tactic(auto, unfolding(model::specs::Told::yes_or_no))]
 fn yes_or_no(verdict: u8) -> u8
     ensures { result ≡ yes_or_no verdict }
