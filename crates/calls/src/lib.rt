@@ -30,6 +30,7 @@ use table::Engine;
 use tallies::Entry;
 
 // A call as a C caller writes it: its code, and its numbers in the call's order.
+// By hand: C lends it in this layout, so a code is a number.
 #[repr(C)]
 #[derive(Clone, Copy)]
 pub struct Request {
@@ -42,33 +43,38 @@ pub struct Request {
 }
 
 // The call that a request is.
-pub fn call_of(request: Request) -> Call
-    ensures { result ≡ call_of request }
-{
-    let code = request.code;
-    let a = request.a;
-    let b = request.b;
-    let c = request.c;
-    let d = request.d;
-    let e = request.e;
-    match code {
-        0 => Call::Start,
-        1 => Call::Read(a, b, c),
-        2 => Call::Write(a, b, c),
-        3 => Call::Execute(a, b, c, d, e),
-        4 => Call::Create(a, b, c, d, e),
-        5 => Call::CreateRoot(a, b, c, d),
-        6 => Call::Move(a, b, c, d, e),
-        7 => Call::Delete(a, b, c, d),
-        8 => Call::CallTask(a, b),
-        9 => Call::Invoke(a, b),
-        10 => Call::Pass(a, b, c),
-        11 => Call::Post(a, b, c),
-        12 => Call::Find(a, b, c),
-        13 => Call::Mark(a),
-        14 => Call::Step(a),
-        15 => Call::Spread,
-        _ => Call::Mark(65535),
+#[tactic(auto, unfolding(crate::specs::Request::call_at))]
+impl From<Request> for Call {
+    ghost from_gives = { λ q r. r ≡ call_of q };
+
+    fn from(request: Request) -> Call {
+        let Request {
+            code,
+            a,
+            b,
+            c,
+            d,
+            e,
+        } = request;
+        match code {
+            0 => Call::Start,
+            1 => Call::Read(a, b, c),
+            2 => Call::Write(a, b, c),
+            3 => Call::Execute(a, b, c, d, e),
+            4 => Call::Create(a, b, c, d, e),
+            5 => Call::CreateRoot(a, b, c, d),
+            6 => Call::Move(a, b, c, d, e),
+            7 => Call::Delete(a, b, c, d),
+            8 => Call::CallTask(a, b),
+            9 => Call::Invoke(a, b),
+            10 => Call::Pass(a, b, c),
+            11 => Call::Post(a, b, c),
+            12 => Call::Find(a, b, c),
+            13 => Call::Mark(a),
+            14 => Call::Step(a),
+            15 => Call::Spread,
+            _ => Call::Mark(65535),
+        }
     }
 }
 

@@ -51,7 +51,7 @@ pub struct Answer {
 
 // A tally record: how many calls were granted, slipped and refused.
 #[repr(C)]
-#[derive(Clone, Copy)]
+#[derive(Clone, Copy, Default)]
 pub struct Tally {
     pub granted: u32,
     pub slipped: u32,
@@ -148,6 +148,7 @@ impl TryFrom<u8> for Verdict {
 }
 
 // The told word.
+// By hand: a number, since C reads it, and the definitions of specs/Told are numbers.
 pub const NO_WORD: u8 = 0;
 
 pub const TOLD_YES: u8 = 1;

@@ -29,8 +29,7 @@ fn request_lent(
 ) -> Entry
     ensures { ToldEntry (memory bytes.old words.old) (call_of request) (refused_unless (eqb lent numbers) row_state (memory bytes.old words.old) (model.perform order (memory bytes.old words.old) (call_of request))) result bytes.new words.new }
 {
-    let call = calls::call_of(request);
-    calls::call_lent(bytes, words, lent, order, table::TABLE, call)
+    calls::call_lent(bytes, words, lent, order, table::TABLE, request.into())
 }
 
 // A whole call over the lent list, as C and Rust call it.

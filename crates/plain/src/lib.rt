@@ -1,10 +1,9 @@
 // Calls and loads by the plain rules, for C and Rust to link beside the monitor: the list of tallies is lent as plain numbers, three to a record. And the decision table's entries by these rules, for whoever prints the table.
 #![tactic(auto)]
 
-ghost use Rattle.std.specs.Prelude.{◌≡◌, ◌<◌};
-ghost use Rattle.bits.specs.All.{one};
+ghost use Rattle.std.specs.Prelude.{◌≡◌, ◌<◌, ◌≤◌, MatchOption};
 ghost use Rattle.model.specs.State.{memory};
-ghost use Rattle.table.specs.Table.{entry_of, operation_at};
+ghost use Rattle.table.specs.Table.{entry_of, operations, operation_at};
 ghost use Rattle.tallies.specs.Counts.{records_in, left_over};
 ghost use Rattle.calls.specs.Request.{call_of};
 ghost use Rattle.calls.specs.Ends.{ended, Performs, Loads};
@@ -14,7 +13,7 @@ use calls::Request;
 use decisions::Decision;
 use levels::Order;
 use model::Answer;
-use table::{OPERATIONS, Operation, SETTINGS};
+use table::{Operation, SETTINGS};
 
 // A whole call.
 #[unsafe(no_mangle)]
@@ -28,8 +27,7 @@ pub extern "C" fn tupehiwo_plain_perform(
     ensures performs { Performs order (memory bytes.old words.old) (records_in counts.old) (call_of request) (ended result bytes.new words.new (records_in counts.new)) }
     ensures counts_unchanged { left_over counts.new ≡ left_over counts.old }
 {
-    let call = calls::call_of(request);
-    calls::perform(bytes, words, counts, order, table::RULES, call)
+    calls::perform(bytes, words, counts, order, table::RULES, request.into())
 }
 
 // A whole load.
@@ -52,11 +50,11 @@ pub extern "C" fn tupehiwo_plain_load(
 // Where a number names no operation or no setting.
 const NO_ENTRY: u8 = 255;
 
-// The operation of a number, in the table's order; past them it is the last.
-fn operation_at(n: u16) -> Operation
-    ensures { result ≡ operation_at n }
+// The operation of a number, in the table's order, if there is one.
+fn operation_at(n: u16) -> Option<Operation>
+    ensures { MatchOption result (operations ≤ n) (λ o. (n < operations) × (o ≡ operation_at n)) }
 {
-    match n {
+    Some(match n {
         0 => Operation::Read,
         1 => Operation::Write,
         2 => Operation::Move,
@@ -64,14 +62,9 @@ fn operation_at(n: u16) -> Operation
         4 => Operation::Call,
         5 => Operation::Invoke,
         6 => Operation::Pass,
-        _ => Operation::Post,
-    }
-}
-
-fn digit(flow: bool) -> u8
-    ensures { (result ≡ one flow) × (result < 2) }
-{
-    if flow { 1 } else { 0 }
+        7 => Operation::Post,
+        _ => return None,
+    })
 }
 
 // The number of a decision. The verdicts of the rules are all below 16.
@@ -79,27 +72,29 @@ fn entry_of(decision: Decision) -> u8
     requires { decision.verdict < 16 }
     ensures { result ≡ entry_of decision }
 {
-    decision.verdict + 16 * digit(decision.first) + 32 * digit(decision.second)
+    decision.verdict + 16 * u8::from(decision.first) + 32 * u8::from(decision.second)
 }
 
 // The entry of a setting of an operation. Operations have their numbers by the table's order; fact i is bit i of the setting.
+#[tactic(auto, using(std::proofs::lemmas::Bool::Decides::nat_tests, table::specs::TableLaws::verdicts), unfolding(crate::specs::Entry::entry_for, decisions::specs::Decisions::settled))]
 #[unsafe(no_mangle)]
 pub extern "C" fn tupehiwo_plain_entry(operation: u16, setting: u16) -> u8
     ensures { result ≡ entry_for operation setting }
 {
-    if ((operation as usize) < OPERATIONS) & ((setting as usize) < SETTINGS) {
-        let s = setting as u64;
-        let judged = table::by_rules(
-            operation_at(operation),
-            bits::has_bit(s, 0),
-            bits::has_bit(s, 1),
-            bits::has_bit(s, 2),
-            bits::has_bit(s, 3),
-            bits::has_bit(s, 4),
-            bits::has_bit(s, 5),
-        );
-        entry_of(judged)
-    } else {
-        NO_ENTRY
+    let Some(operation) = operation_at(operation) else {
+        return NO_ENTRY;
+    };
+    if usize::from(setting) >= SETTINGS {
+        return NO_ENTRY;
     }
+    let s = u64::from(setting);
+    entry_of(table::by_rules(
+        operation,
+        bits::has_bit(s, 0),
+        bits::has_bit(s, 1),
+        bits::has_bit(s, 2),
+        bits::has_bit(s, 3),
+        bits::has_bit(s, 4),
+        bits::has_bit(s, 5),
+    ))
 }

@@ -1,12 +1,11 @@
 -- What the model says of a whole call or load, by its entry.
 -- Assumes nothing.
-use Rattle.std.specs.Prelude.{◌≡◌, refl, Bool, true, false, ◌&&◌, List, ◌++◌, ℕ, ◌*◌, ◌≤◌, length, replicate}
+use Rattle.std.specs.Prelude.{◌≡◌, Bool, ◌&&◌, List, ℕ, length}
 use Rattle.std.proofs.Math.Path.{ap}
-use Rattle.std.proofs.Common.{◌∙◌, append-nil, arith, drop_of_length-le, eq-eqb, ne_eqb}
+use Rattle.std.proofs.Common.{◌∙◌, eq-eqb, ne_eqb}
 use Rattle.std.proofs.Math.Logic.{⊎_elim}
 use Rattle.std.proofs.Math.Bool.{cond}
 use Rattle.std.proofs.Math.Dec.{eqb}
-use mir.Val.{bool_byte}
 use Rattle.bits.specs.AllLaws.{either}
 use Rattle.rows.specs.Size.{present, numbers}
 use Rattle.levels.specs.declared.Order.{Order}
@@ -17,23 +16,9 @@ use Rattle.model.specs.State.{Memory}
 use Rattle.model.specs.Events.{Outcome}
 use Rattle.model.specs.Monitor.{refused_unless, perform}
 use Rattle.model.specs.Load.{load}
-use Rattle.model.specs.Tallies.{nothing_counted, list_fits, zeroed, raised_at, is_start, counted_on, tallied, with_list, counted, performed, loaded}
+use Rattle.model.specs.Tallies.{list_fits, zeroed, raised_at, is_start, counted_on, tallied, with_list, counted, performed, loaded}
 use Rattle.tallies.specs.declared.Entry.{Entry}
-use Rattle.tallies.specs.Entries.{Enters, first_zeroed, entered_as}
-
--- ---- what is zeroed: all records of a list, or none
-
-all_zeroed : (k : ℕ) (ts : List Tally) → length ts ≤ k → first_zeroed k ts ≡ replicate k nothing_counted
-all_zeroed k ts l = ap (λ (rest : List Tally). replicate k nothing_counted ++ rest) (drop_of_length-le ts l) ∙ append-nil (replicate k nothing_counted)
-
-pub zeroed_or_kept : (anew : Bool) (ts : List Tally) → length ts ≡ numbers → first_zeroed (bool_byte anew * numbers) ts ≡ cond anew (zeroed present) ts
-unfolding zeroed
-zeroed_or_kept true ts e = all_zeroed numbers ts (omega arith)
-zeroed_or_kept false ts e = refl
-
-pub at_most : (anew : Bool) → bool_byte anew * numbers ≤ numbers
-at_most true = omega arith
-at_most false = omega arith
+use Rattle.tallies.specs.Entries.{Enters, entered_as}
 
 -- ---- what an entry leaves of a list of another length, and of one that fits
 
@@ -42,9 +27,9 @@ module _ (n : Entry) (ts : List Tally) where
   unfolding entered_as list_fits
   unfit_kept h = rw (ne_eqb _ _ h)
 
-  pub fit_entered : length ts ≡ numbers → raised_at n.number n.answer.verdict (first_zeroed (bool_byte n.anew * numbers) ts) ≡ entered_as n ts
+  pub fit_entered : length ts ≡ numbers → raised_at n.number n.answer.verdict (cond n.anew (zeroed present) ts) ≡ entered_as n ts
   unfolding entered_as list_fits
-  fit_entered e = ap (raised_at n.number n.answer.verdict) (zeroed_or_kept n.anew ts e) ∙ rw (eq-eqb _ _ e)
+  fit_entered e = rw (eq-eqb _ _ e)
 
 -- ---- an outcome that a list of another length refuses, and its entry in the list. Which record counts, and whether the list begins anew, goes by the verdict
 

@@ -1,10 +1,10 @@
 -- How a list of plain numbers changes, read as a list of tallies.
 -- Assumes nothing.
 use Rattle.std.specs.Prelude.{◌≡◌, refl, List, [], ◌∷◌, ◌++◌, ℕ, zero, suc, ◌+◌, ◌*◌, ◌/◌, ◌<◌, ◌≤◌, length, replicate, drop, get_or, set}
-use Rattle.std.proofs.Common.{sym, ap, ◌∙◌, not-suc-le-zero, le_of_suc-le-suc, arith}
+use Rattle.std.proofs.Common.{sym, ap, ◌∙◌, not-suc-le-zero, le_of_suc-le-suc, arith, append-nil, drop_of_length-le}
+use Rattle.std.proofs.Math.ListN.{length-set}
 use Rattle.model.specs.declared.Tally.{Tally}
 use Rattle.model.specs.Tallies.{nothing_counted, raised, raised_at}
-use Rattle.tallies.specs.Entries.{first_zeroed}
 use Rattle.tallies.specs.Counts.{records_in, left_over}
 
 -- ---- how many records there are
@@ -15,10 +15,6 @@ records_count [] = refl
 records_count (g ∷ []) = refl
 records_count (g ∷ s ∷ []) = refl
 records_count (g ∷ s ∷ r ∷ ns) = let e = records_count ns in omega arith
-
--- a list that is long enough for k records holds as many
-pub held : (k : ℕ) (ns : List ℕ) → 3 * k ≤ length ns → k ≤ length (records_in ns)
-held k ns l = omega (arith, records_count ns)
 
 -- ---- one record further on stand three numbers more
 
@@ -32,13 +28,20 @@ third : (i : ℕ) → 3 * suc i + 2 ≡ suc (suc (suc (3 * i + 2)))
 third i = omega arith
 
 -- the first records zeroed
-pub zeroed_in : (k : ℕ) (ns : List ℕ) → k ≤ length (records_in ns) → records_in (replicate (3 * k) 0 ++ drop (3 * k) ns) ≡ first_zeroed k (records_in ns)
+pub zeroed_in : (k : ℕ) (ns : List ℕ) → k ≤ length (records_in ns) → records_in (replicate (3 * k) 0 ++ drop (3 * k) ns) ≡ replicate k nothing_counted ++ drop k (records_in ns)
 unfolding records_in
 zeroed_in zero ns l = refl
 zeroed_in (suc k) [] l = absurd (not-suc-le-zero l)
 zeroed_in (suc k) (g ∷ []) l = absurd (not-suc-le-zero l)
 zeroed_in (suc k) (g ∷ s ∷ []) l = absurd (not-suc-le-zero l)
 zeroed_in (suc k) (g ∷ s ∷ r ∷ ns) l = rw (next k) (ap (λ (ts : List Tally). nothing_counted ∷ ts) (zeroed_in k ns (le_of_suc-le-suc l)))
+
+-- all of them
+pub all_zeroed : (k : ℕ) (ns : List ℕ) → length (records_in ns) ≡ k → records_in (replicate (3 * k) 0 ++ drop (3 * k) ns) ≡ replicate k nothing_counted
+all_zeroed k ns e =
+    zeroed_in k ns (omega arith)
+    ∙ ap (λ (rest : List Tally). replicate k nothing_counted ++ rest) (drop_of_length-le (records_in ns) (omega arith))
+    ∙ append-nil (replicate k nothing_counted)
 
 -- and what is left over is kept
 pub zeroed_over : (k : ℕ) (ns : List ℕ) → k ≤ length (records_in ns) → left_over (replicate (3 * k) 0 ++ drop (3 * k) ns) ≡ left_over ns
@@ -85,3 +88,7 @@ written_over (g ∷ []) i t l = absurd (not-suc-le-zero l)
 written_over (g ∷ s ∷ []) i t l = absurd (not-suc-le-zero l)
 written_over (g ∷ s ∷ r ∷ ns) zero t l = refl
 written_over (g ∷ s ∷ r ∷ ns) (suc i) t l = rw (third i, second i, next i) (written_over ns i t (le_of_suc-le-suc l))
+
+-- ---- where a list is counted, and where one of its records is raised
+
+pub ruleset counts = (records_count, length-set, raised_in, written_over)

@@ -1,9 +1,9 @@
 -- How a call is entered in a list of tallies.
 -- Assumes nothing.
-use Rattle.std.specs.Prelude.{◌≡◌, Bool, cond, List, ◌++◌, ℕ, ◌<◌, replicate, drop}
+use Rattle.std.specs.Prelude.{◌≡◌, Bool, cond, List, ℕ, ◌<◌}
 use Rattle.rows.specs.Size.{present, numbers}
 use Rattle.model.specs.declared.Tally.{Tally}
-use Rattle.model.specs.Tallies.{nothing_counted, list_fits, zeroed, raised_at}
+use Rattle.model.specs.Tallies.{list_fits, zeroed, raised_at}
 use Rattle.tallies.specs.declared.Entry.{Entry}
 
 -- its record is one of a list of the right length
@@ -13,10 +13,6 @@ InList n = n.number < numbers
 -- it counts on record i, and the list begins anew, or not
 abbrev pub Enters : Entry → ℕ → Bool → Type 0
 Enters n i anew = (n.number ≡ i) × (n.anew ≡ anew)
-
--- the first k records zeroed, the others kept
-abbrev pub first_zeroed : ℕ → List Tally → List Tally
-first_zeroed k ts = replicate k nothing_counted ++ drop k ts
 
 -- zeroed if it begins anew, then one record raised; a list of another length stays as it is
 unfoldable pub entered_as : Entry → List Tally → List Tally

@@ -1,13 +1,14 @@
 // The lists of tallies: who asks, and how a call is entered in the list that it is lent.
 #![tactic(auto)]
 
-ghost use Rattle.std.specs.Prelude.{◌≡◌, List, ℕ, ◌+◌, ◌*◌, ◌<◌, ◌≤◌, length};
-ghost use Rattle.rows.specs.Size.{numbers};
+ghost use Rattle.std.specs.Prelude.{◌≡◌, List, [], ℕ, ◌<◌, length};
+ghost use Rattle.rows.specs.Size.{present, numbers};
 ghost use Rattle.records.specs.Records.{BytesLent};
 ghost use Rattle.model.specs.State.{memory};
 ghost use Rattle.model.specs.Tallies as model;
-ghost use Rattle.model.specs.Tallies.{one_more, raised, raised_at, if_task};
-ghost use Rattle.tallies.specs.Entries.{InList, first_zeroed, entered_as};
+ghost use Rattle.model.specs.Tallies.{one_more, raised, raised_at, zeroed, if_task};
+ghost use Rattle.model.specs.declared.Tally.{Tally};
+ghost use Rattle.tallies.specs.Entries.{InList, entered_as};
 ghost use Rattle.tallies.specs.Counts.{records_in, left_over};
 
 use model::{Answer, Call, Tally};
@@ -29,41 +30,32 @@ pub struct Entry {
 fn one_more(n: u32) -> u32
     ensures { result ≡ one_more n }
 {
-    if n < u32::MAX { n + 1 } else { n }
+    n.saturating_add(1)
 }
 
 // The record with a verdict counted.
+#[tactic(auto, using(std::proofs::lemmas::Bool::Decides::nat_tests), unfolding(model::specs::Tallies::raised))]
 fn raise(tally: Tally, verdict: u8) -> Tally
     ensures { result ≡ raised tally verdict }
 {
-    let granted = tally.granted;
-    let slipped = tally.slipped;
-    let refused = tally.refused;
-    if verdict == model::GRANTED {
-        let more = one_more(granted);
-        return Tally {
-            granted: more,
-            slipped,
-            refused,
-        };
-    }
-    if verdict == model::SLIPPED {
-        let more = one_more(slipped);
-        return Tally {
-            granted,
-            slipped: more,
-            refused,
-        };
-    }
-    let more = one_more(refused);
-    Tally {
-        granted,
-        slipped,
-        refused: more,
+    match verdict {
+        model::GRANTED => Tally {
+            granted: one_more(tally.granted),
+            ..tally
+        },
+        model::SLIPPED => Tally {
+            slipped: one_more(tally.slipped),
+            ..tally
+        },
+        _ => Tally {
+            refused: one_more(tally.refused),
+            ..tally
+        },
     }
 }
 
 // The number, if it names a task; otherwise 0.
+#[tactic(auto, using(crate::specs::AskerLaws::task_in), unfolding(model::specs::Tallies::if_task, model::specs::State::task))]
 fn if_task(bytes: &[u8], x: u16) -> u16
     requires { BytesLent bytes.now }
     ensures { ((ws : List ℕ) → result ≡ if_task (memory bytes.now ws) x) × (result < numbers) }
@@ -72,94 +64,124 @@ fn if_task(bytes: &[u8], x: u16) -> u16
 }
 
 // Whose record a call counts on that has passed rows 2 and 3: that of the task that asks.
+#[tactic(auto, unfolding(model::specs::Tallies::asker))]
 pub fn asker(bytes: &[u8], call: Call) -> u16
     requires { BytesLent bytes.now }
     ensures { ((ws : List ℕ) → result ≡ model.asker (memory bytes.now ws) call) × (result < numbers) }
 {
     match call {
-        Call::Start => 0,
-        Call::Read(e, _, _) => if_task(bytes, e),
-        Call::Write(e, _, _) => if_task(bytes, e),
-        Call::Execute(c, _, _, _, _) => if_task(bytes, c),
-        Call::Create(c, _, _, _, _) => if_task(bytes, c),
-        Call::CreateRoot(c, _, _, _) => if_task(bytes, c),
-        Call::Move(e, _, _, _, _) => if_task(bytes, e),
-        Call::Delete(e, _, _, _) => if_task(bytes, e),
-        Call::CallTask(a, _) => if_task(bytes, a),
-        Call::Invoke(a, _) => if_task(bytes, a),
-        Call::Pass(z, _, _) => if_task(bytes, z),
-        Call::Post(x, _, _) => if_task(bytes, x),
-        Call::Find(x, _, _) => if_task(bytes, x),
-        Call::Mark(_) => 0,
-        Call::Step(_) => 0,
-        Call::Spread => 0,
+        Call::Read(x, ..)
+        | Call::Write(x, ..)
+        | Call::Execute(x, ..)
+        | Call::Create(x, ..)
+        | Call::CreateRoot(x, ..)
+        | Call::Move(x, ..)
+        | Call::Delete(x, ..)
+        | Call::CallTask(x, ..)
+        | Call::Invoke(x, ..)
+        | Call::Pass(x, ..)
+        | Call::Post(x, ..)
+        | Call::Find(x, ..) => if_task(bytes, x),
+        Call::Start | Call::Mark(_) | Call::Step(_) | Call::Spread => 0,
+    }
+}
+
+// What a lent list of tallies is made of: whole records, or plain numbers, three to a record.
+trait Element: Copy {
+    // the tallies that such a list holds, and the elements that belong to none
+    ghost held: { List Self → List Tally };
+
+    ghost rest: { List Self → List Self };
+
+    fn records_in(list: &[Self]) -> usize
+        ensures { result ≡ length (held list.now) };
+
+    // All records of a list of the right length.
+    fn zero(list: &mut [Self])
+        requires { length (held list.old) ≡ numbers }
+        ensures { (held list.new ≡ zeroed present) × (rest list.new ≡ rest list.old) };
+
+    // The record of a number.
+    fn raise_at(list: &mut [Self], number: usize, verdict: u8)
+        requires { number < length (held list.old) }
+        ensures { (held list.new ≡ raised_at number verdict (held list.old)) × (rest list.new ≡ rest list.old) };
+}
+
+#[tactic(auto, unfolding(model::specs::Tallies::raised_at, model::specs::Tallies::zeroed))]
+impl Element for Tally {
+    ghost held = { λ ts. ts };
+
+    ghost rest = { λ _. [] };
+
+    fn records_in(list: &[Tally]) -> usize {
+        list.len()
+    }
+
+    fn zero(list: &mut [Tally]) {
+        list.fill(Tally::default());
+    }
+
+    fn raise_at(list: &mut [Tally], number: usize, verdict: u8) {
+        list[number] = raise(list[number], verdict);
+    }
+}
+
+#[tactic(auto, using(crate::specs::CountLaws::counts))]
+impl Element for u32 {
+    ghost held = { records_in };
+
+    ghost rest = { left_over };
+
+    fn records_in(list: &[u32]) -> usize {
+        list.len() / COUNTS
+    }
+
+    fn zero(list: &mut [u32]) {
+        list[..COUNTS * records::RECORDS].fill(0);
+    }
+
+    fn raise_at(list: &mut [u32], number: usize, verdict: u8) {
+        let i = COUNTS * number;
+        let before = Tally {
+            granted: list[i],
+            slipped: list[i + 1],
+            refused: list[i + 2],
+        };
+        let after = raise(before, verdict);
+        list[i] = after.granted;
+        list[i + 1] = after.slipped;
+        list[i + 2] = after.refused;
     }
 }
 
 // Enters a call in its list: what begins anew zeroes it first, then one record is raised. A list of another length stays as it is.
-#[tactic(auto, using(crate::proofs::EntryLaws::unfit_kept))]
+#[tactic(auto, using(crate::proofs::EntryLaws::unfit_kept, crate::proofs::EntryLaws::fit_entered), unfolding(model::specs::Tallies::zeroed))]
+fn enter_in<E: Element>(list: &mut [E], entry: Entry)
+    requires { InList entry }
+    ensures { (E.held list.new ≡ entered_as entry (E.held list.old)) × (E.rest list.new ≡ E.rest list.old) }
+{
+    if E::records_in(list) != records::RECORDS {
+        return;
+    }
+    if entry.anew {
+        E::zero(list);
+    }
+    E::raise_at(list, entry.number as usize, entry.answer.verdict);
+}
+
+// Enters a call in a list of records.
 pub fn enter(tallies: &mut [Tally], entry: Entry)
     requires { InList entry }
     ensures { tallies.new ≡ entered_as entry tallies.old }
 {
-    if tallies.len() != records::RECORDS {
-        return;
-    }
-    let zeroed = entry.anew as usize * records::RECORDS;
-    let mut i = 0;
-    while i < zeroed {
-        tallies[i] = Tally {
-            granted: 0,
-            slipped: 0,
-            refused: 0,
-        };
-        i += 1;
-    }
-    let number = entry.number as usize;
-    let before = tallies[number];
-    let after = raise(before, entry.answer.verdict);
-    tallies[number] = after;
+    enter_in(tallies, entry);
 }
 
 // How many records a list of plain numbers holds, three numbers to a record; one or two left over belong to none.
-#[tactic(auto, using(crate::specs::CountLaws::records_count))]
 pub fn records_in(counts: &[u32]) -> usize
     ensures { result ≡ length (records_in counts.now) }
 {
-    counts.len() / COUNTS
-}
-
-// The first n records of such a list zeroed.
-fn zero_counts(counts: &mut [u32], n: usize)
-    requires { 3 * n ≤ length counts.old }
-    ensures { (records_in counts.new ≡ first_zeroed n (records_in counts.old)) × (left_over counts.new ≡ left_over counts.old) }
-{
-    let end = COUNTS * n;
-    let mut i = 0;
-    while i < end {
-        counts[i] = 0;
-        i += 1;
-    }
-}
-
-// One record of such a list raised.
-fn raise_counts(counts: &mut [u32], number: usize, verdict: u8)
-    requires { 3 * number + 2 < length counts.old }
-    ensures { (records_in counts.new ≡ raised_at number verdict (records_in counts.old)) × (left_over counts.new ≡ left_over counts.old) }
-{
-    let i = COUNTS * number;
-    let granted = counts[i];
-    let slipped = counts[i + 1];
-    let refused = counts[i + 2];
-    let before = Tally {
-        granted,
-        slipped,
-        refused,
-    };
-    let after = raise(before, verdict);
-    counts[i] = after.granted;
-    counts[i + 1] = after.slipped;
-    counts[i + 2] = after.refused;
+    u32::records_in(counts)
 }
 
 // Enters a call in a list of plain numbers, as programs in Rattle lend it.
@@ -167,10 +189,5 @@ pub fn enter_counts(counts: &mut [u32], entry: Entry)
     requires { InList entry }
     ensures { (records_in counts.new ≡ entered_as entry (records_in counts.old)) × (left_over counts.new ≡ left_over counts.old) }
 {
-    if records_in(counts) != records::RECORDS {
-        return;
-    }
-    zero_counts(counts, entry.anew as usize * records::RECORDS);
-    let number = entry.number as usize;
-    raise_counts(counts, number, entry.answer.verdict);
+    enter_in(counts, entry);
 }

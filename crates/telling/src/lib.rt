@@ -20,26 +20,26 @@ fn yes_or_no(verdict: u8) -> u8
 }
 
 // The word of a call that came to a verdict.
+#[tactic(auto, unfolding(model::specs::Told::told))]
 pub fn told(call: Call, verdict: u8) -> u8
     ensures { result ≡ model.told call verdict }
 {
-    let word = yes_or_no(verdict);
     match call {
-        Call::Start => model::NO_WORD,
-        Call::Read(_, _, _) => word,
-        Call::Write(_, _, _) => word,
-        Call::Execute(_, _, _, _, _) => word,
-        Call::Create(_, _, _, _, _) => word,
-        Call::CreateRoot(_, _, _, _) => word,
-        Call::Move(_, _, _, _, _) => word,
-        Call::Delete(_, _, _, _) => model::NO_WORD,
-        Call::CallTask(_, _) => word,
-        Call::Invoke(_, _) => word,
-        Call::Pass(_, _, _) => model::NO_WORD,
-        Call::Post(_, _, _) => model::NO_WORD,
-        Call::Find(_, _, _) => model::NO_WORD,
-        Call::Mark(_) => model::NO_WORD,
-        Call::Step(_) => model::NO_WORD,
-        Call::Spread => model::NO_WORD,
+        Call::Read(..)
+        | Call::Write(..)
+        | Call::Execute(..)
+        | Call::Create(..)
+        | Call::CreateRoot(..)
+        | Call::Move(..)
+        | Call::CallTask(..)
+        | Call::Invoke(..) => yes_or_no(verdict),
+        Call::Start
+        | Call::Delete(..)
+        | Call::Pass(..)
+        | Call::Post(..)
+        | Call::Find(..)
+        | Call::Mark(_)
+        | Call::Step(_)
+        | Call::Spread => model::NO_WORD,
     }
 }
