@@ -5,7 +5,6 @@ ghost use Rattle.trail.specs.Feeding.{nothing_fed, ended, after_byte, after_piec
 
 use crate::lines::Monitor;
 use crate::marked;
-use levels::Order;
 use script::print;
 
 // How many bytes of a line are kept: as many as settle what it means.
@@ -15,15 +14,16 @@ pub const KEPT: usize = 128;
 pub const OUT: usize = 131072;
 
 // Where the reading stands.
+// By hand: the buffers are arrays with their lengths beside them, since there is no heap for a `Vec`.
 #[derive(Drop)]
 pub struct State {
-    pub monitor: Monitor,
+    monitor: Monitor,
     // What is kept of the open line, and how much that is.
-    pub line: [u8; KEPT],
-    pub filled: usize,
+    line: [u8; KEPT],
+    filled: usize,
     // What is printed and not written yet, and how much that is.
-    pub out: [u8; OUT],
-    pub used: usize,
+    out: [u8; OUT],
+    used: usize,
     ghost line_size: { length line ≡ KEPT },
     ghost out_size: { length out ≡ OUT },
     ghost line_within: { filled ≤ KEPT },
@@ -33,20 +33,11 @@ pub struct State {
 impl State {
     ghost use Rattle.trail.specs.Buffers.{answer_size, marked_size, progress_in, reading_in};
 
-    // Before the first piece. The order is all zero before the first granted start.
+    // Before the first piece.
     pub fn new() -> State
         ensures { reading_in result ≡ nothing_fed }
     {
-        let monitor = Monitor {
-            bytes: [0; records::BYTES],
-            words: [0; rows::WORDS],
-            counts: [0; crate::lines::TALLIES],
-            order: Order {
-                rows: [0; 16],
-                count: 0,
-                top: 0,
-            },
-        };
+        let monitor = Monitor::new();
         State {
             monitor,
             line: [0; KEPT],
@@ -122,8 +113,7 @@ impl State {
         ensures { progress_in self.new ≡ finished (reading_in self.old) }
     {
         self.last_line();
-        let monitor = &self.monitor;
-        let report = marking::report(&monitor.bytes, &monitor.words, monitor.order);
+        let report = self.monitor.report();
         self.used = marked::print(&mut self.out, self.used, report);
     }
 }

@@ -1,7 +1,12 @@
 // What a line does.
 ghost use Rattle.std.specs.Prelude.{◌≡◌};
+ghost use Rattle.rows.specs.Size.{present};
 ghost use Rattle.model.specs.State.{memory};
+ghost use Rattle.model.specs.Monitor.{report};
+ghost use Rattle.model.specs.Tallies.{zeroed};
 ghost use Rattle.tallies.specs.Counts.{records_in};
+ghost use Rattle.script.specs.Script.{no_order};
+ghost use Rattle.trail.specs.Script.{zeros};
 ghost use Rattle.trail.specs.Lines.{leaves, reply_to, asked, started_with, line_done};
 
 use levels::Order;
@@ -10,18 +15,40 @@ use script::Command;
 use script::print::Reply;
 
 // The list of tallies: a record for each number, three counts to a record.
-pub const TALLIES: usize = tallies::COUNTS * records::RECORDS;
+const TALLIES: usize = tallies::COUNTS * records::RECORDS;
 
 // What is kept from line to line: the memory that the monitor is lent, its tallies, and the order of the last granted start.
 #[derive(Drop)]
 pub struct Monitor {
-    pub bytes: [u8; records::BYTES],
-    pub words: [u64; rows::WORDS],
-    pub counts: [u32; TALLIES],
-    pub order: Order,
+    bytes: [u8; records::BYTES],
+    words: [u64; rows::WORDS],
+    counts: [u32; TALLIES],
+    order: Order,
 }
 
 impl Monitor {
+    // Before the first line. The order is all zero before the first granted start.
+    pub fn new() -> Monitor
+        ensures { (result.order ≡ no_order) × (memory result.bytes result.words ≡ zeros) × (records_in result.counts ≡ zeroed present) }
+    {
+        Monitor {
+            bytes: [0; records::BYTES],
+            words: [0; rows::WORDS],
+            counts: [0; TALLIES],
+            order: Order {
+                rows: [0; 16],
+                count: 0,
+                top: 0,
+            },
+        }
+    }
+
+    pub fn report(&self) -> Report
+        ensures { result ≡ report self.now.order (memory self.now.bytes self.now.words) }
+    {
+        marking::report(&self.bytes, &self.words, self.order)
+    }
+
     #[tactic(auto, unfolding(crate::specs::Lines::started_with, crate::specs::Lines::answered))]
     fn start(&mut self, order: Order) -> Reply
         ensures { leaves result self.new ≡ started_with (memory self.old.bytes self.old.words) (records_in self.old.counts) self.old.order order }
