@@ -1,13 +1,10 @@
 -- Laws of the call that a word is with its numbers.
 -- Assumes nothing.
-use Rattle.std.specs.Prelude.{◌≡◌, refl, Bool, true, false, not, List, [], ◌∷◌, ℕ, zero, suc, ◌+◌, ◌≤◌, ◌<◌, min, eqb, length, get_or, take, drop}
-use Rattle.std.proofs.Common.{sym, ap, ◌∙◌, arith, length-take, drop-cons, ne_eqb}
-use Rattle.std.proofs.lemmas.Bool.{not-true, not-false}
+use Rattle.std.specs.Prelude.{◌≡◌, refl, true, false, Option, List, [], ◌∷◌, ℕ, zero, suc, ◌+◌, ◌≤◌, ◌<◌, eqb, length, get_or, take, drop}
+use Rattle.std.proofs.Common.{sym, ap, ◌∙◌, arith, take_all, drop-cons, ne_eqb}
 use Rattle.script.specs.Script.{bad, asks, call_of, counted, same_word, read_word, write_word, run_word, root_word, create_word, move_word, delete_word, call_word, invoke_word, pass_word, post_word, find_word, mark_word, step_word, spread_word}
-use Rattle.script.specs.Pieces.{call_with}
 use Rattle.script.specs.PiecesLaws.{cond_both, same_eq, same_length}
-use Rattle.script.specs.declared.Parsed.{Parsed}
-use Rattle.script.specs.declared.pieces.Numbers.{Numbers}
+use Rattle.script.specs.declared.Command.{Command}
 use Rattle.model.specs.declared.Call.TheVariants.{Read, Write, Execute, Create, CreateRoot, Move, Delete, CallTask, Invoke, Pass, Post, Find, Mark, Step, Spread}
 
 -- each word with as many numbers as it wants
@@ -48,10 +45,6 @@ words a b c d e = record {
   spread = refl;
 }
 
--- the word is x, which was found by a test
-pub said : (w x ns : List ℕ) {t : Bool} {r s : Parsed} → t ≡ same_word w x → t ≡ true → r ≡ s → call_of x ns ≡ s → r ≡ call_of w ns
-said w x ns e h f g = f ∙ sym (ap (λ (v : List ℕ). call_of v ns) (same_eq w x (sym e ∙ h)) ∙ g)
-
 -- k numbers from the i-th on
 abbrev pub picked : ℕ → ℕ → List ℕ → List ℕ
 picked zero i ns = []
@@ -61,15 +54,16 @@ picked_from : (k i : ℕ) (ns : List ℕ) → i + k ≤ length ns → take k (dr
 picked_from zero i ns h = refl
 picked_from (suc k) i ns h = rw (drop-cons ns i 0 (omega arith)) (ap (λ (r : List ℕ). get_or ns i 0 ∷ r) (picked_from k (suc i) ns (omega arith)))
 
--- k numbers were read
-pub with_read : (k : ℕ) (w : List ℕ) (ns : Numbers) {r : Parsed} → not ns.ok ≡ false → ns.count ≡ k → length ns.values ≡ 16 → k ≤ 16 → r ≡ call_of w (picked k 0 ns.values) → r ≡ call_with w ns
-unfolding call_with
-with_read k w ns e f h l g = g ∙ rw (not-false ns.ok e, f, ← picked_from k 0 ns.values (omega arith))
+all_picked : (k : ℕ) (ns : List ℕ) → length ns ≡ k → ns ≡ picked k 0 ns
+all_picked k ns h = sym (take_all k ns (omega arith)) ∙ picked_from k 0 ns (omega arith)
 
--- what was read are no numbers, or more than any word wants
-pub with_none : (w : List ℕ) (ns : Numbers) {r : Parsed} → not ns.ok ≡ true → r ≡ bad → r ≡ call_with w ns
-unfolding call_with
-with_none w ns e g = g ∙ rw (not-true ns.ok e)
+module _ (k : ℕ) (w : List ℕ) where
+  -- the word is x, and it has k numbers
+  pub said : (x ns : List ℕ) {r : Option Command} → true ≡ same_word w x → length ns ≡ k → call_of x (picked k 0 ns) ≡ r → r ≡ call_of w ns
+  said x ns e l g = sym (ap (λ (v : List ℕ). call_of v ns) (same_eq w x (sym e)) ∙ ap (call_of x) (all_picked k ns l) ∙ g)
+
+  pub none_said : (ns : List ℕ) → length ns ≡ k → call_of w (picked k 0 ns) ≡ bad → bad ≡ call_of w ns
+  none_said ns l g = sym (ap (call_of w) (all_picked k ns l) ∙ g)
 
 -- no word wants these
 
@@ -109,9 +103,3 @@ unfolding call_of read_word write_word run_word root_word create_word move_word 
 long_word w ns h =
     let other : (x : List ℕ) → length x < 7 → same_word w x ≡ false = λ x l. same_length w x (omega arith) in
     simp (other read_word (omega arith), other write_word (omega arith), other run_word (omega arith), other create_word (omega arith), other root_word (omega arith), other move_word (omega arith), other delete_word (omega arith), other call_word (omega arith), other invoke_word (omega arith), other pass_word (omega arith), other post_word (omega arith), other find_word (omega arith), other mark_word (omega arith), other step_word (omega arith), other spread_word (omega arith))
-
-pub with_more : (w : List ℕ) (ns : Numbers) {r : Parsed} → 5 < ns.count → length ns.values ≡ 16 → r ≡ bad → r ≡ call_with w ns
-unfolding call_with
-with_more w ns h e g =
-    let most : length (take ns.count ns.values) ≡ min ns.count 16 = length-take ns.count ns.values ∙ rw e in
-    g ∙ sym (rw (no_more w (take ns.count ns.values) (omega (arith, most))) (cond_both ns.ok bad))

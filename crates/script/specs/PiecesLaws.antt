@@ -1,13 +1,16 @@
 -- Laws of words, pieces and numbers: what a loop over the bytes of a line knows at its place, and what the pieces are.
 -- Assumes nothing.
-use Rattle.std.specs.Prelude.{◌≡◌, refl, Bool, true, false, cond, ◌&&◌, List, [], ◌∷◌, ℕ, suc, ◌+◌, ◌-◌, ◌*◌, ◌^◌, ◌≤◌, ◌<◌, leb, eqb, length, get_or, take, drop}
-use Rattle.std.proofs.Common.{ap, ◌∙◌, arith, add-one, drop_of_length-le, length-drop, drop-cons, drop-drop, eqb-true, eq-eqb, ne_eqb, le-leb, leb-true}
+use Rattle.std.specs.Prelude.{◌≡◌, refl, Bool, true, false, not, cond, ◌&&◌, Option, Some, None, List, [], ◌∷◌, ℕ, suc, ◌+◌, ◌-◌, ◌*◌, ◌^◌, ◌≤◌, ◌<◌, leb, ltb, eqb, length, get_or, take, drop}
+use Rattle.std.proofs.Common.{inl, inr, ap, ◌∙◌, arith, take_all, add-one, drop_of_length-le, length-drop, drop-cons, drop-drop, ltb-false, eqb-true, le-leb, leb-true}
+use Rattle.std.specs.Cmp.Lexicographic.{pointwise}
+use Rattle.std.specs.List.{position, position_or_len}
+use Rattle.std.specs.Option.{unwrap_or}
 use Rattle.std.proofs.lemmas.Bool.{false≢true, lt-leb}
+use Rattle.std.proofs.lemmas.List.Sums.{prefix_len-le-length}
 use Rattle.std.proofs.Math.Nat.{pow-succ', pow-le-pow_right}
-use Rattle.bits.specs.AllLaws.{and_l, and_r, and-false}
+use Rattle.bits.specs.AllLaws.{either, and_l, and_r, and-false}
 use Rattle.script.specs.Script.{space, into, pieces, digits, value_from, value, is_number, same_word}
 use Rattle.script.specs.Pieces.{first, afterwards, number_of}
-use Rattle.script.specs.declared.pieces.Value.TheVariants.{Is, None}
 
 pub cond_both : {A : Type 0} (b : Bool) (x : A) → cond b x x ≡ x
 cond_both true x = refl
@@ -32,20 +35,29 @@ same_length a b h = go (same_word a b) refl
     go true e = absurd (h (ap length (same_eq a b e)))
     go false e = refl
 
--- at a byte of both
-pub same_at : (a b : List ℕ) (i : ℕ) → i < length a → i < length b → same_word (drop i a) (drop i b) ≡ (eqb (get_or a i 0) (get_or b i 0) && same_word (drop (i + 1) a) (drop (i + 1) b))
+-- `==` on slices compares them just so
+pub same_pointwise : (a b : List ℕ) → pointwise eqb a b ≡ same_word a b
 unfolding same_word
-same_at a b i p q = rw (add-one, drop-cons a i 0 p, drop-cons b i 0 q)
+same_pointwise [] [] = refl
+same_pointwise [] (y ∷ b) = refl
+same_pointwise (x ∷ a) [] = refl
+same_pointwise (x ∷ a) (y ∷ b) = rw (same_pointwise a b)
 
 -- ---- pieces
 
-pub first_space : (l : List ℕ) (i : ℕ) → i < length l → get_or l i 0 ≡ space → length (first (drop i l)) ≡ 0
+first_position : (l : List ℕ) → position_or_len (λ b. eqb b space) l ≡ length (first l)
 unfolding first
-first_space l i p e = rw (drop-cons l i 0 p, eq-eqb _ _ e)
+first_position [] = refl
+first_position (b ∷ bs) = elim (either (eqb b space)) [ inl h ↦ rw h | inr h ↦ rw h (omega (arith, first_position bs)) ]
 
-pub first_more : (l : List ℕ) (i : ℕ) → i < length l → (get_or l i 0 ≡ space → ⊥) → length (first (drop i l)) ≡ suc (length (first (drop (i + 1) l)))
-unfolding first
-first_more l i p e = rw (add-one, drop-cons l i 0 p, ne_eqb _ _ e)
+-- where the first space stands, or else the end
+pub first_end : (l : List ℕ) {r : Option ℕ} → r ≡ position (λ b. eqb b space) l → unwrap_or r (length l) ≡ length (first l)
+first_end l e =
+    let n = position_or_len (λ b. eqb b space) l in
+    rw (e, ← first_position l) (elim (either (ltb n (length l))) [
+      | inl h ↦ rw h
+      | inr h ↦ rw h (omega (arith, ltb-false n (length l) h, prefix_len-le-length (λ b. not (eqb b space)) l))
+    ])
 
 pub first_within : (l : List ℕ) → length (first l) ≤ length l
 unfolding first
@@ -78,6 +90,10 @@ piece_at l from end e =
 
 pub piece_within : (l : List ℕ) (from : ℕ) → from ≤ length l → from + length (first (drop from l)) ≤ length l
 piece_within l from h = omega (arith, first_within (drop from l), length-drop from l)
+
+-- what is left from a place on, as a slice that reaches to the end has it
+pub rest_from : (l : List ℕ) (i : ℕ) → take (length l - i) (drop i l) ≡ drop i l
+rest_from l i = take_all (length l - i) (drop i l) (omega (arith, length-drop i l))
 
 -- what follows a piece that ends at i, where the line goes on
 pub after_at : (l : List ℕ) (i : ℕ) → i < length l → afterwards (drop i l) ≡ first (drop (i + 1) l) ∷ afterwards (drop (i + 1 + length (first (drop (i + 1) l))) l)
@@ -112,7 +128,7 @@ no_digits p e = rw (e, and-false)
 
 -- past the last digit, with their value v
 pub number_read : (p : List ℕ) (v i : ℕ) → 1 ≤ length p → length p ≤ 5 → length p ≤ i → digits p ≡ digits (drop i p) → value p ≡ value_from v (drop i p)
-    → number_of p ≡ cond (leb v 65535) (Is v) None
+    → number_of p ≡ cond (leb v 65535) (Some v) None
 unfolding number_of is_number digits value_from
 number_read p v i a b h d e =
     let none = drop_of_length-le p h in

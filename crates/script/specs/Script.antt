@@ -1,11 +1,10 @@
 -- The script's language: what a line of bytes, without its line feed, means.
 -- Assumes nothing.
-use Rattle.std.specs.Prelude.{Bool, true, false, cond, ◌&&◌, List, [], ◌∷◌, ◌++◌, ℕ, ◌+◌, ◌-◌, ◌*◌, leb, eqb, length, get_or, replicate}
+use Rattle.std.specs.Prelude.{Bool, true, false, cond, ◌&&◌, Option, Some, None, List, [], ◌∷◌, ◌++◌, ℕ, ◌+◌, ◌-◌, ◌*◌, leb, eqb, length, get_or, replicate}
 use Rattle.levels.specs.declared.Order.{Order}
 use Rattle.levels.specs.Order.{most_levels}
-use Rattle.script.specs.declared.Line.{Line}
-use Rattle.script.specs.declared.Line.TheVariants.{Bad, Starts, Asks}
-use Rattle.script.specs.declared.Parsed.{Parsed}
+use Rattle.script.specs.declared.Command.{Command}
+use Rattle.script.specs.declared.Command.TheVariants.{Start, Ask}
 use Rattle.model.specs.declared.Call.{Call}
 use Rattle.model.specs.declared.Call.TheVariants.{Read, Write, Execute, Create, CreateRoot, Move, Delete, CallTask, Invoke, Pass, Post, Find, Mark, Step, Spread}
 
@@ -15,18 +14,19 @@ use Rattle.model.specs.declared.Call.TheVariants.{Read, Write, Execute, Create, 
 abbrev pub no_order : Order
 no_order = record { rows = replicate most_levels 0; count = 0; top = 0 }
 
-abbrev pub bad : Parsed
-bad = record { line = Bad; order = no_order }
+-- no call
+abbrev pub bad : Option Command
+bad = None
 
-abbrev pub starts : Order → Parsed
-starts o = record { line = Starts; order = o }
+abbrev pub starts : Order → Option Command
+starts o = Some (Start o)
 
 -- a start whose count is over sixteen: what follows the count is unread, and no such order passes
-abbrev pub too_many : ℕ → Parsed
+abbrev pub too_many : ℕ → Option Command
 too_many n = starts (record { rows = replicate most_levels 0; count = n; top = 0 })
 
-abbrev pub asks : Call → Parsed
-asks c = record { line = Asks c; order = no_order }
+abbrev pub asks : Call → Option Command
+asks c = Some (Ask c)
 
 -- ---- pieces: one space parts them
 
@@ -129,11 +129,11 @@ spread_word = 115 ∷ 112 ∷ 114 ∷ 101 ∷ 97 ∷ 100 ∷ []
 -- ---- lines
 
 -- a call wants just so many numbers
-unfoldable pub counted : ℕ → List ℕ → Call → Parsed
+unfoldable pub counted : ℕ → List ℕ → Call → Option Command
 counted n ns c = cond (eqb (length ns) n) (asks c) bad
 
 -- the call that a word and its numbers are
-unfoldable pub call_of : List ℕ → List ℕ → Parsed
+unfoldable pub call_of : List ℕ → List ℕ → Option Command
 call_of w ns =
     let a = get_or ns 0 0 in
     let b = get_or ns 1 0 in
@@ -158,23 +158,23 @@ call_of w ns =
     bad))))))))))))))
 
 -- count, top and as many rows as the count says; the other rows are zero
-unfoldable pub order_of : ℕ → List ℕ → Parsed
+unfoldable pub order_of : ℕ → List ℕ → Option Command
 order_of n [] = bad
 order_of n (t ∷ rs) =
     cond (eqb (length rs) n) (starts (record { rows = rs ++ replicate (most_levels - n) 0; count = n; top = t })) bad
 
 -- what follows the word start
-unfoldable pub start_of : List (List ℕ) → Parsed
+unfoldable pub start_of : List (List ℕ) → Option Command
 start_of [] = bad
 start_of (p ∷ ps) =
     cond (is_number p)
     (cond (leb (value p) most_levels) (cond (all_numbers ps) (order_of (value p) (values ps)) bad) (too_many (value p)))
     bad
 
-unfoldable pub line_of : List (List ℕ) → Parsed
+unfoldable pub line_of : List (List ℕ) → Option Command
 line_of [] = bad
 line_of (w ∷ ps) = cond (same_word w start_word) (start_of ps) (cond (all_numbers ps) (call_of w (values ps)) bad)
 
 -- what a line means
-unfoldable pub read_line : List ℕ → Parsed
+unfoldable pub read_line : List ℕ → Option Command
 read_line bs = line_of (pieces bs)

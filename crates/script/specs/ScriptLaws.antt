@@ -1,6 +1,6 @@
 -- The first 128 bytes settle what a line means: a longer one is bad, or a start with a count over sixteen. So a program need not keep more.
 -- Assumes nothing.
-use Rattle.std.specs.Prelude.{◌≡◌, true, cond, List, [], ◌∷◌, ◌++◌, ℕ, suc, ◌+◌, ◌*◌, ◌≤◌, ◌<◌, leb, eqb, length, drop}
+use Rattle.std.specs.Prelude.{◌≡◌, true, cond, Option, List, [], ◌∷◌, ◌++◌, ℕ, suc, ◌+◌, ◌*◌, ◌≤◌, ◌<◌, leb, eqb, length, drop}
 use Rattle.std.proofs.Math.Path.{refl}
 use Rattle.std.proofs.Common.{sym, ap, ◌∙◌, inl, inr, arith, length-append, leb-true, ne_eqb}
 use Rattle.std.proofs.Math.Decide.{dec_lt}
@@ -11,7 +11,7 @@ use Rattle.script.specs.Pieces.{first, afterwards}
 use Rattle.script.specs.PiecesLaws.{cond_both, same_eq, same_length, pieces_first, number_short, too_long}
 use Rattle.script.specs.CallLaws.{no_more, long_word}
 use Rattle.script.specs.LineLaws.{length_values}
-use Rattle.script.specs.declared.Parsed.{Parsed}
+use Rattle.script.specs.declared.Command.{Command}
 
 -- ---- how long pieces are, a space for each
 
@@ -33,11 +33,11 @@ numbers_span (p ∷ ps) e = omega (arith, number_short p (and_l _ _ e), numbers_
 
 -- ---- a long line
 
-long_start : List (List ℕ) → Parsed
+long_start : List (List ℕ) → Option Command
 long_start [] = bad
 long_start (p ∷ ps) = cond (is_number p) (cond (leb (value p) most_levels) bad (too_many (value p))) bad
 
-long_line : List (List ℕ) → Parsed
+long_line : List (List ℕ) → Option Command
 long_line [] = bad
 long_line (w ∷ ps) = cond (same_word w start_word) (long_start ps) bad
 

@@ -1,134 +1,38 @@
 // The call that a word is with its numbers.
-ghost use Rattle.std.specs.Prelude.{◌≡◌, [], ◌∷◌};
-ghost use Rattle.script.specs.Script.{no_order, call_of};
-ghost use Rattle.script.specs.Script.{bad as bad·line, asks as asks·line};
-ghost use Rattle.script.specs.Pieces.{call_with};
+ghost use Rattle.std.specs.Prelude.{◌≡◌};
+ghost use Rattle.script.specs.Script.{same_word, call_of};
 
-use crate::pieces::{Numbers, same};
-use crate::{Line, Parsed};
-use levels::Order;
+use crate::Command;
 use model::Call;
 
-// A line that is no start.
-fn without_order(line: Line) -> Parsed
-    ensures { result ≡ record { line = line; order = no_order } }
+// The piece is that word.
+pub fn is(piece: &[u8], word: &[u8]) -> bool
+    ensures { result ≡ same_word piece.now word.now }
 {
-    Parsed {
-        line,
-        order: Order {
-            rows: [0; 16],
-            count: 0,
-            top: 0,
-        },
-    }
-}
-
-pub fn bad() -> Parsed
-    ensures { result ≡ bad·line }
-{
-    without_order(Line::Bad)
-}
-
-fn asks(call: Call) -> Parsed
-    ensures { result ≡ asks·line call }
-{
-    without_order(Line::Asks(call))
-}
-
-fn with_none(word: &[u8]) -> Parsed
-    ensures { result ≡ call_of word.now [] }
-{
-    if same(word, b"spread") {
-        asks(Call::Spread)
-    } else {
-        bad()
-    }
-}
-
-fn with_one(word: &[u8], a: u16) -> Parsed
-    ensures { result ≡ call_of word.now (a ∷ []) }
-{
-    if same(word, b"mark") {
-        asks(Call::Mark(a))
-    } else if same(word, b"step") {
-        asks(Call::Step(a))
-    } else {
-        bad()
-    }
-}
-
-fn with_two(word: &[u8], a: u16, b: u16) -> Parsed
-    ensures { result ≡ call_of word.now (a ∷ b ∷ []) }
-{
-    if same(word, b"call") {
-        asks(Call::CallTask(a, b))
-    } else if same(word, b"invoke") {
-        asks(Call::Invoke(a, b))
-    } else {
-        bad()
-    }
-}
-
-fn with_three(word: &[u8], a: u16, b: u16, c: u16) -> Parsed
-    ensures { result ≡ call_of word.now (a ∷ b ∷ c ∷ []) }
-{
-    if same(word, b"read") {
-        asks(Call::Read(a, b, c))
-    } else if same(word, b"write") {
-        asks(Call::Write(a, b, c))
-    } else if same(word, b"pass") {
-        asks(Call::Pass(a, b, c))
-    } else if same(word, b"post") {
-        asks(Call::Post(a, b, c))
-    } else if same(word, b"find") {
-        asks(Call::Find(a, b, c))
-    } else {
-        bad()
-    }
-}
-
-fn with_four(word: &[u8], a: u16, b: u16, c: u16, d: u16) -> Parsed
-    ensures { result ≡ call_of word.now (a ∷ b ∷ c ∷ d ∷ []) }
-{
-    if same(word, b"root") {
-        asks(Call::CreateRoot(a, b, c, d))
-    } else if same(word, b"delete") {
-        asks(Call::Delete(a, b, c, d))
-    } else {
-        bad()
-    }
-}
-
-fn with_five(word: &[u8], a: u16, b: u16, c: u16, d: u16, e: u16) -> Parsed
-    ensures { result ≡ call_of word.now (a ∷ b ∷ c ∷ d ∷ e ∷ []) }
-{
-    if same(word, b"run") {
-        asks(Call::Execute(a, b, c, d, e))
-    } else if same(word, b"create") {
-        asks(Call::Create(a, b, c, d, e))
-    } else if same(word, b"move") {
-        asks(Call::Move(a, b, c, d, e))
-    } else {
-        bad()
-    }
+    piece == word
 }
 
 // The call that a word is with the numbers that follow it.
-pub fn call_of(word: &[u8], numbers: Numbers) -> Parsed
-    ensures { result ≡ call_with word.now numbers }
+pub fn call_of(word: &[u8], numbers: &[u16]) -> Option<Command>
+    ensures { result ≡ call_of word.now numbers.now }
 {
-    if !numbers.ok {
-        return bad();
-    }
-    let v = numbers.values;
-    let count = numbers.count;
-    match count {
-        0 => with_none(word),
-        1 => with_one(word, v[0]),
-        2 => with_two(word, v[0], v[1]),
-        3 => with_three(word, v[0], v[1], v[2]),
-        4 => with_four(word, v[0], v[1], v[2], v[3]),
-        5 => with_five(word, v[0], v[1], v[2], v[3], v[4]),
-        _ => bad(),
-    }
+    let call = match numbers {
+        [] if is(word, b"spread") => Call::Spread,
+        [a] if is(word, b"mark") => Call::Mark(*a),
+        [a] if is(word, b"step") => Call::Step(*a),
+        [a, b] if is(word, b"call") => Call::CallTask(*a, *b),
+        [a, b] if is(word, b"invoke") => Call::Invoke(*a, *b),
+        [a, b, c] if is(word, b"read") => Call::Read(*a, *b, *c),
+        [a, b, c] if is(word, b"write") => Call::Write(*a, *b, *c),
+        [a, b, c] if is(word, b"pass") => Call::Pass(*a, *b, *c),
+        [a, b, c] if is(word, b"post") => Call::Post(*a, *b, *c),
+        [a, b, c] if is(word, b"find") => Call::Find(*a, *b, *c),
+        [a, b, c, d] if is(word, b"root") => Call::CreateRoot(*a, *b, *c, *d),
+        [a, b, c, d] if is(word, b"delete") => Call::Delete(*a, *b, *c, *d),
+        [a, b, c, d, e] if is(word, b"run") => Call::Execute(*a, *b, *c, *d, *e),
+        [a, b, c, d, e] if is(word, b"create") => Call::Create(*a, *b, *c, *d, *e),
+        [a, b, c, d, e] if is(word, b"move") => Call::Move(*a, *b, *c, *d, *e),
+        _ => return None,
+    };
+    Some(Command::Ask(call))
 }

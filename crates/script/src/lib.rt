@@ -11,76 +11,53 @@ ghost use Rattle.script.specs.Pieces.{afterwards};
 
 use levels::Order;
 use model::Call;
-use pieces::Found;
+use pieces::{Found, Numbers};
 
-// What a line is, but for a start's order, which stands beside it.
+// What a line asks for.
 #[derive(Clone, Copy)]
-pub enum Line {
-    // No call: it prints bad and does nothing.
-    Bad,
+pub enum Command {
     // A start with its order. Of one whose count is over sixteen only the count is read: no such order passes, whatever its rows.
-    Starts,
-    Asks(Call),
-}
-
-// A line that was read, and the order of a start; of any other line the order is all zero.
-#[derive(Clone, Copy)]
-pub struct Parsed {
-    pub line: Line,
-    pub order: Order,
+    Start(Order),
+    Ask(Call),
 }
 
 const MOST_LEVELS: u16 = 16;
 
 // A start, whose word ends at `at`.
-fn start_after(line: &[u8], at: usize) -> Parsed
+fn start_after(line: &[u8], at: usize) -> Option<Command>
     ensures { result ≡ start_of (afterwards (drop at line.now)) }
 {
-    let Found::Number { value: count, end } = pieces::number_after(line, at) else {
-        return calls::bad();
-    };
+    let Found { value: count, end } = pieces::number_after(line, at)?;
     if count > MOST_LEVELS {
-        return Parsed {
-            line: Line::Starts,
-            order: Order {
-                rows: [0; 16],
-                count,
-                top: 0,
-            },
-        };
+        return Some(Command::Start(Order {
+            rows: [0; 16],
+            count,
+            top: 0,
+        }));
     }
-    let Found::Number {
+    let Found {
         value: top,
         end: next,
-    } = pieces::number_after(line, end)
-    else {
-        return calls::bad();
-    };
-    let rows = pieces::numbers_after(line, next);
-    if rows.ok & (rows.count == count as usize) {
-        let values = rows.values;
-        Parsed {
-            line: Line::Starts,
-            order: Order {
-                rows: values,
-                count,
-                top,
-            },
-        }
-    } else {
-        calls::bad()
+    } = pieces::number_after(line, end)?;
+    let Numbers {
+        values: rows,
+        count: given,
+    } = pieces::numbers_after(line, next)?;
+    if given != usize::from(count) {
+        return None;
     }
+    Some(Command::Start(Order { rows, count, top }))
 }
 
-// What a line means, which comes without its line feed.
-pub fn read_line(line: &[u8]) -> Parsed
+// What a line asks for, which comes without its line feed. None: it is no call, prints bad and does nothing.
+pub fn read_line(line: &[u8]) -> Option<Command>
     ensures { result ≡ read_line line.now }
 {
-    let end = pieces::end_of(line, 0);
+    let end = pieces::end_of(line);
     let word = &line[..end];
-    if pieces::same(word, b"start") {
-        start_after(line, end)
-    } else {
-        calls::call_of(word, pieces::numbers_after(line, end))
+    if calls::is(word, b"start") {
+        return start_after(line, end);
     }
+    let numbers = pieces::numbers_after(line, end)?;
+    calls::call_of(word, numbers.as_slice())
 }

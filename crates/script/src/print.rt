@@ -1,9 +1,11 @@
 // What is printed, into a lent buffer. Each function answers where the text ends.
+// By hand: `write!` wants a struct that holds the buffer and an `impl` of `fmt::Write`, and so a ghost name in each contract; and it
+// has an error where the buffer is full, which no caller of these needs.
 ghost use Rattle.std.specs.Prelude.{[], ◌∷◌};
 ghost use Rattle.script.specs.Print.{Printed, decimal, reply_line};
 
 // What answers a line.
-#[derive(Clone, Copy)]
+#[derive(Clone, Copy, PartialEq, Eq, Debug)]
 pub enum Reply {
     Bad,
     Verdict(u8),
@@ -43,10 +45,8 @@ pub fn text(out: &mut [u8], at: usize, bytes: &[u8]) -> usize
     ensures { Printed out.old at bytes.now out.new result }
 {
     let mut end = at;
-    let mut i = 0;
-    while i < bytes.len() {
-        end = byte(out, end, bytes[i]);
-        i += 1;
+    for b in bytes {
+        end = byte(out, end, *b);
     }
     end
 }

@@ -1,6 +1,6 @@
 -- The claims about scripts, proved.
 -- Assumes nothing.
-use Rattle.std.specs.Prelude.{◌≡◌, ◌⊎◌, true, false, cond, List, [], ◌∷◌, ◌++◌, ℕ, ◌<◌, eqb}
+use Rattle.std.specs.Prelude.{◌≡◌, ◌⊎◌, true, false, cond, Option, Some, None, List, [], ◌∷◌, ◌++◌, ℕ, ◌<◌, eqb, replicate}
 use Rattle.std.proofs.Math.Path.{refl}
 use Rattle.std.proofs.Common.{sym, ap, ◌∙◌, ⊎_elim, true≢false, append_assoc, append-nil, arith}
 use Rattle.std.proofs.Math.Logic.{inl, inr}
@@ -25,8 +25,8 @@ use Rattle.model.specs.Monitor.{refusal, refused_unless, fitted, start, perform,
 use Rattle.model.specs.Tallies.{list_fits}
 use Rattle.model.proofs.TableLaws.{Fitted, fitted_done, start_done, by_call, refused_keeps}
 use Rattle.script.specs.Script.{no_order, start_word, pieces, is_number, value, same_word, start_of, line_of, read_line, too_many}
-use Rattle.script.specs.declared.Line.{Line}
-use Rattle.script.specs.declared.Line.TheVariants.{Bad, Starts, Asks}
+use Rattle.script.specs.declared.Command.{Command}
+use Rattle.script.specs.declared.Command.TheVariants as command
 use Rattle.containment.specs.Lists.{Item, asks, Standing, Role, starting, marking, other, role, entered, next, run, Admitted, Admissible, leaves, begun, by_start}
 use Rattle.containment.specs.Claims.{Contained}
 use Rattle.containment.proofs.Trails.{entered_memory}
@@ -149,14 +149,14 @@ first_start is o e =
 abbrev Agree : Progress → Standing → Type 0
 Agree p s = (p.memory ≡ s.memory) × (p.order ≡ s.order) × (list_fits present p.tallies ≡ true)
 
-line_runs : (k : Line) (o : Order) (p : Progress) (is : List Item) → Agree p (standing is) → Stands is
-    → ((done_by p.memory p.tallies p.order o k).memory ≡ (standing (is ++ calls_by p.order o k)).memory)
-    × ((done_by p.memory p.tallies p.order o k).done.order ≡ (standing (is ++ calls_by p.order o k)).order)
-    × (list_fits present (done_by p.memory p.tallies p.order o k).tallies ≡ true)
-    × Stands (is ++ calls_by p.order o k)
+line_runs : (k : Option Command) (p : Progress) (is : List Item) → Agree p (standing is) → Stands is
+    → ((done_by p.memory p.tallies p.order k).memory ≡ (standing (is ++ calls_by p.order k)).memory)
+    × ((done_by p.memory p.tallies p.order k).order ≡ (standing (is ++ calls_by p.order k)).order)
+    × (list_fits present (done_by p.memory p.tallies p.order k).tallies ≡ true)
+    × Stands (is ++ calls_by p.order k)
 unfolding done_by calls_by standing started_with asked answered
-line_runs Bad o p is a b = rw append-nil (a.0, a.1, a.2, b)
-line_runs Starts o p is a b =
+line_runs None p is a b = rw append-nil (a.0, a.1, a.2, b)
+line_runs (Some (command.Start o)) p is a b =
     let s = run is unstarted in
     let out = call_out o p.memory p.tallies a.2 Start in (
       rw (run_more is (asks o Start) unstarted, out, a.0) (sym (next_memory o Start s)),
@@ -164,7 +164,7 @@ line_runs Starts o p is a b =
       call_left_fits o p.memory p.tallies a.2 Start,
       ⊎_elim (λ e. first_start is o e) (λ g. inr (begun_more is g (asks o Start) (inl refl))) b,
     )
-line_runs (Asks c) o p is a b =
+line_runs (Some (command.Ask c)) p is a b =
     let s = run is unstarted in
     let out = call_out s.order p.memory p.tallies a.2 c in (
       rw (a.1, run_more is (asks s.order c) unstarted, out, a.0) (sym (next_memory s.order c s)),
@@ -178,8 +178,8 @@ lines_run : (ls : List (List ℕ)) (p : Progress) (is : List Item) → Agree p (
 unfolding after_lines calls_of
 lines_run [] p is a b = rw append-nil (a, b)
 lines_run (l ∷ ls) p is a b =
-    let c = calls_by p.order (read_line l).order (read_line l).line in
-    let t = line_runs (read_line l).line (read_line l).order p is a b in
+    let c = calls_by p.order (read_line l) in
+    let t = line_runs (read_line l) p is a b in
     rw (← append_assoc is c (calls_of ls (after_line l p))) (lines_run ls (after_line l p) (is ++ c) (unfold after_line line_done in (t.0, t.1, t.2)) t.3)
 
 -- the whole input
@@ -262,6 +262,7 @@ read_too_many l count rest e n h = rw e (unfold same_word start_word in rw (n, l
 pub over_sixteen : OverSixteen
 unfolding after_line line_done done_by started_with answered
 over_sixteen input l count rest e n h =
-    let r = too_many_refused (too_many (value count)).order (at_end input).memory (ends_fit input) h in
-    let t = start_counted (too_many (value count)).order (at_end input).memory (at_end input).tallies (ends_listed input) r in
+    let o : Order = record { rows = replicate most_levels 0; count = value count; top = 0 } in
+    let r = too_many_refused o (at_end input).memory (ends_fit input) h in
+    let t = start_counted o (at_end input).memory (at_end input).tallies (ends_listed input) r in
     rw (read_too_many l count rest e n h, t) (unfold refusal in refl)

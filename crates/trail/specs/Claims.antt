@@ -1,6 +1,6 @@
 -- The claims about scripts, each a short definition; the proofs stand in Proved.antt.
 -- Assumes nothing.
-use Rattle.std.specs.Prelude.{◌≡◌, ◌⊎◌, true, List, [], ◌∷◌, ◌++◌, ℕ, ◌<◌}
+use Rattle.std.specs.Prelude.{◌≡◌, ◌⊎◌, true, Option, Some, None, List, [], ◌∷◌, ◌++◌, ℕ, ◌<◌}
 use Rattle.rows.specs.Size.{numbers}
 use Rattle.levels.specs.declared.Order.{Order}
 use Rattle.levels.specs.Order.{most_levels}
@@ -10,8 +10,8 @@ use Rattle.model.specs.Verdicts.{row_order}
 use Rattle.model.specs.Tallies.{raised_at}
 use Rattle.script.specs.Script.{no_order, start_word, pieces, is_number, value, read_line}
 use Rattle.script.specs.Print.{line_feed, reply_line}
-use Rattle.script.specs.declared.Line.{Line}
-use Rattle.script.specs.declared.Line.TheVariants.{Bad, Starts, Asks}
+use Rattle.script.specs.declared.Command.{Command}
+use Rattle.script.specs.declared.Command.TheVariants as command
 use Rattle.script.specs.declared.print.Reply.TheVariants.{Verdict}
 use Rattle.containment.specs.Lists as lists
 use Rattle.containment.specs.Lists.{Item, asks, Standing, begun}
@@ -48,14 +48,14 @@ ListsMarked = (input : List ℕ) → output input ≡ (at_end input).printed ++ 
 
 -- the calls of a script's lines, each with the order that it is lent: a start its own, any other that of the last granted start,
 -- before it all zero
-unfoldable pub calls_by : Order → Order → Line → List Item
-calls_by kept o Bad = []
-calls_by kept o Starts = asks o Start ∷ []
-calls_by kept o (Asks c) = asks kept c ∷ []
+unfoldable pub calls_by : Order → Option Command → List Item
+calls_by kept None = []
+calls_by kept (Some (command.Start o)) = asks o Start ∷ []
+calls_by kept (Some (command.Ask c)) = asks kept c ∷ []
 
 unfoldable pub calls_of : List (List ℕ) → Progress → List Item
 calls_of [] p = []
-calls_of (l ∷ ls) p = calls_by p.order (read_line l).order (read_line l).line ++ calls_of ls (after_line l p)
+calls_of (l ∷ ls) p = calls_by p.order (read_line l) ++ calls_of ls (after_line l p)
 
 abbrev pub calls : List ℕ → List Item
 calls input = calls_of (lines input) nothing_read

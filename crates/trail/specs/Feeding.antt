@@ -16,10 +16,14 @@ pub record Reading : Type 0 where
 unfoldable pub nothing_fed : Reading
 nothing_fed = record { line = []; progress = nothing_read }
 
+-- the open line is done
+abbrev pub ended : Reading → Reading
+ended r = record { line = []; progress = after_line r.line r.progress }
+
 unfoldable pub after_byte : ℕ → Reading → Reading
 after_byte b r =
     cond (eqb b line_feed)
-    (record { line = []; progress = after_line r.line r.progress })
+    (ended r)
     (record { line = take line_size (r.line ++ b ∷ []); progress = r.progress })
 
 unfoldable pub after_piece : List ℕ → Reading → Reading

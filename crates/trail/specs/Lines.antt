@@ -1,6 +1,6 @@
 -- What a line of a script does: what it prints, the order that is kept for the next, and what it leaves of the memory and of the tallies.
 -- Assumes nothing.
-use Rattle.std.specs.Prelude.{Bool, true, false, cond, List, ℕ, eqb}
+use Rattle.std.specs.Prelude.{Bool, true, false, cond, Option, Some, None, List, ℕ, eqb}
 use Rattle.levels.specs.declared.Order.{Order}
 use Rattle.model.specs.declared.Call.{Call}
 use Rattle.model.specs.declared.Call.TheVariants.{Start, Read, Write, Execute, Create, CreateRoot, Move, Delete, CallTask, Invoke, Pass, Post, Find, Mark, Step, Spread}
@@ -10,20 +10,21 @@ use Rattle.model.specs.State.{Memory, memory}
 use Rattle.model.specs.Tallies.{Tallied, performed}
 use Rattle.tallies.specs.Counts.{records_in}
 use Rattle.script.specs.Script.{read_line}
-use Rattle.script.specs.declared.Line.{Line}
-use Rattle.script.specs.declared.Line.TheVariants.{Bad, Starts, Asks}
+use Rattle.script.specs.declared.Command.{Command}
+use Rattle.script.specs.declared.Command.TheVariants as command
 use Rattle.script.specs.declared.print.Reply.{Reply}
 use Rattle.script.specs.declared.print.Reply.TheVariants as reply
-use Rattle.trail.specs.declared.lines.Done.{Done}
+use Rattle.trail.specs.declared.lines.Monitor.{Monitor}
 
 pub record LineOutcome : Type 0 where
-  pub done : Done
+  pub reply : Reply
+  pub order : Order
   pub memory : Memory
   pub tallies : List Tally
 
--- what a contract says of an answer, and of what is left of the bytes, the words and the counts
-abbrev pub leaves : Done → List ℕ → List ℕ → List ℕ → LineOutcome
-leaves d bs ws ns = record { done = d; memory = memory bs ws; tallies = records_in ns }
+-- what a contract says of an answer, and of what is left: the order, the bytes, the words and the counts
+abbrev pub leaves : Reply → Monitor → LineOutcome
+leaves r m = record { reply = r; order = m.order; memory = memory m.bytes m.words; tallies = records_in m.counts }
 
 unfoldable pub is_spread : Call → Bool
 is_spread Start = false
@@ -49,7 +50,7 @@ reply_to c v n = cond (is_spread c) (reply.Rounds v n) (reply.Verdict v)
 
 -- what a call that gave `out` prints and leaves, with the order that is kept from then on
 unfoldable pub answered : Tallied → Reply → Order → LineOutcome
-answered out r o = record { done = record { reply = r; order = o }; memory = out.outcome.memory; tallies = out.tallies }
+answered out r o = record { reply = r; order = o; memory = out.outcome.memory; tallies = out.tallies }
 
 -- a call, under the order that is kept
 unfoldable pub asked : Memory → List Tally → Order → Call → LineOutcome
@@ -59,11 +60,11 @@ asked m ts kept c = let out = performed kept m ts c in answered out (reply_to c 
 unfoldable pub started_with : Memory → List Tally → Order → Order → LineOutcome
 started_with m ts kept o = let out = performed o m ts Start in answered out (reply.Verdict out.outcome.verdict) (cond (eqb out.outcome.verdict granted) o kept)
 
--- what a line does by what it was read as: one that is neither a start nor a call prints bad and does nothing
-unfoldable pub done_by : Memory → List Tally → Order → Order → Line → LineOutcome
-done_by m ts kept o Bad = record { done = record { reply = reply.Bad; order = kept }; memory = m; tallies = ts }
-done_by m ts kept o Starts = started_with m ts kept o
-done_by m ts kept o (Asks c) = asked m ts kept c
+-- what a line does by what it asks for: one that is no call prints bad and does nothing
+unfoldable pub done_by : Memory → List Tally → Order → Option Command → LineOutcome
+done_by m ts kept None = record { reply = reply.Bad; order = kept; memory = m; tallies = ts }
+done_by m ts kept (Some (command.Start o)) = started_with m ts kept o
+done_by m ts kept (Some (command.Ask c)) = asked m ts kept c
 
 unfoldable pub line_done : Memory → List Tally → Order → List ℕ → LineOutcome
-line_done m ts kept l = let p = read_line l in done_by m ts kept p.order p.line
+line_done m ts kept l = done_by m ts kept (read_line l)

@@ -40,7 +40,7 @@ nothing_read = record { printed = []; order = no_order; memory = zeros; tallies 
 unfoldable pub after_line : List ℕ → Progress → Progress
 after_line l p =
     let out = line_done p.memory p.tallies p.order l in
-    record { printed = p.printed ++ reply_line out.done.reply; order = out.done.order; memory = out.memory; tallies = out.tallies }
+    record { printed = p.printed ++ reply_line out.reply; order = out.order; memory = out.memory; tallies = out.tallies }
 
 unfoldable pub after_lines : List (List ℕ) → Progress → Progress
 after_lines [] p = p

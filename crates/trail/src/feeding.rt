@@ -1,164 +1,119 @@
 // A script whose input comes in pieces. Each is fed as it comes, and what it prints stands in a buffer until it is written.
 ghost use Rattle.std.specs.Prelude.{◌+◌, ◌*◌, ◌≤◌, ◌≡◌, length};
-ghost use Rattle.script.specs.Script.{no_order};
-ghost use Rattle.trail.specs.Script.{after_line};
-ghost use Rattle.trail.specs.Feeding.{line_size, after_piece, last_line, finished};
-ghost use Rattle.trail.specs.Buffers.{answer_size, marked_size, progress_in, reading_in};
+ghost use Rattle.trail.specs.declared.feeding.TheConstants.{KEPT, OUT};
+ghost use Rattle.trail.specs.Feeding.{nothing_fed, ended, after_byte, after_piece, closed, finished, emptied};
 
-use crate::{lines, marked};
-use levels::Order;
+use crate::lines::Monitor;
+use crate::marked;
 use script::print;
 
 // How many bytes of a line are kept: as many as settle what it means.
 pub const KEPT: usize = 128;
 
+// Room for what a piece of 16,384 bytes prints: eight bytes for each of its bytes.
+pub const OUT: usize = 131072;
+
 // Where the reading stands.
-#[derive(Clone, Copy)]
+// By hand: the buffers are arrays with their lengths beside them, since there is no heap for a `Vec`.
+#[derive(Drop)]
 pub struct State {
-    pub order: Order,
-    // How much of the open line is kept, and of the output is not written yet.
-    pub filled: usize,
-    pub used: usize,
+    monitor: Monitor,
+    // What is kept of the open line, and how much that is.
+    line: [u8; KEPT],
+    filled: usize,
+    // What is printed and not written yet, and how much that is.
+    out: [u8; OUT],
+    used: usize,
+    ghost line_size: { length line ≡ KEPT },
+    ghost out_size: { length out ≡ OUT },
+    ghost line_within: { filled ≤ KEPT },
+    ghost out_within: { used ≤ OUT },
 }
 
-// What is left by lines alone.
-#[derive(Clone, Copy)]
-pub struct Answered {
-    pub order: Order,
-    pub used: usize,
-}
+impl State {
+    ghost use Rattle.trail.specs.Buffers.{answer_size, marked_size, progress_in, reading_in};
 
-// Before the first piece. The order is all zero before the first granted start.
-pub fn at_first() -> State
-    ensures { result ≡ record { order = no_order; filled = 0; used = 0 } }
-{
-    State {
-        order: Order {
-            rows: [0; 16],
-            count: 0,
-            top: 0,
-        },
-        filled: 0,
-        used: 0,
+    // Before the first piece.
+    pub fn new() -> State
+        ensures { reading_in result ≡ nothing_fed }
+    {
+        let monitor = Monitor::new();
+        State {
+            monitor,
+            line: [0; KEPT],
+            filled: 0,
+            out: [0; OUT],
+            used: 0,
+        }
     }
-}
 
-// What was printed has been written.
-pub fn emptied(state: State) -> State
-    ensures { result ≡ record { order = state.order; filled = state.filled; used = 0 } }
-{
-    let order = state.order;
-    State {
-        order,
-        filled: state.filled,
-        used: 0,
+    // A line is done, and its answer printed behind those before it.
+    fn end_line(&mut self)
+        requires { self.old.used + answer_size ≤ OUT }
+        ensures ends { reading_in self.new ≡ ended (reading_in self.old) }
+        ensures room { self.new.used ≤ self.old.used + answer_size }
+    {
+        let line = &self.line[..self.filled];
+        let reply = self.monitor.do_line(line);
+        self.filled = 0;
+        self.used = print::answer(&mut self.out, self.used, reply);
     }
-}
 
-// A line is done, and its answer printed behind those before it.
-fn end_line(
-    line: &[u8],
-    out: &mut [u8],
-    bytes: &mut [u8],
-    words: &mut [u64],
-    counts: &mut [u32],
-    at: Answered,
-) -> Answered
-    requires { at.used + answer_size ≤ length out.old }
-    ensures { (progress_in result.order result.used out.new bytes.new words.new counts.new ≡ after_line line.now (progress_in at.order at.used out.old bytes.old words.old counts.old))
-        × (result.used ≤ at.used + answer_size) }
-{
-    let before = at.order;
-    let done = lines::do_line(line, bytes, words, counts, before);
-    let reply = done.reply;
-    let used = print::answer(out, at.used, reply);
-    let order = done.order;
-    Answered { order, used }
-}
-
-// Feeds a piece. Its answers fit: each answers a line, which has at least its line feed, with at most eight bytes.
-pub fn feed(
-    piece: &[u8],
-    line: &mut [u8],
-    out: &mut [u8],
-    bytes: &mut [u8],
-    words: &mut [u64],
-    counts: &mut [u32],
-    from: State,
-) -> State
-    requires { (length line.old ≡ line_size) × (from.filled ≤ line_size) × (from.used + answer_size * length piece.now ≤ length out.old) }
-    ensures { (reading_in result line.new out.new bytes.new words.new counts.new ≡ after_piece piece.now (reading_in from line.old out.old bytes.old words.old counts.old))
-        × (result.filled ≤ line_size) × (result.used ≤ length out.new) }
-{
-    let order = from.order;
-    let mut at = Answered {
-        order,
-        used: from.used,
-    };
-    let mut filled = from.filled;
-    let mut i = 0;
-    while i < piece.len() {
-        let b = piece[i];
-        i += 1;
+    fn feed_byte(&mut self, b: u8)
+        requires { self.old.used + answer_size ≤ OUT }
+        ensures feeds { reading_in self.new ≡ after_byte b (reading_in self.old) }
+        ensures room { self.new.used ≤ self.old.used + answer_size }
+    {
         if b == b'\n' {
-            at = end_line(&line[..filled], out, bytes, words, counts, at);
-            filled = 0;
-            continue;
+            self.end_line();
+        } else if self.filled < KEPT {
+            self.line[self.filled] = b;
+            self.filled += 1;
         }
-        if filled == KEPT {
-            continue;
+    }
+
+    // Feeds a piece. Its answers fit: each answers a line, which has at least its line feed, with at most eight bytes.
+    pub fn feed(&mut self, piece: &[u8])
+        requires { self.old.used + answer_size * length piece.now ≤ OUT }
+        ensures { reading_in self.new ≡ after_piece piece.now (reading_in self.old) }
+    {
+        for b in piece {
+            self.feed_byte(*b);
         }
-        line[filled] = b;
-        filled += 1;
     }
-    let order = at.order;
-    State {
-        order,
-        filled,
-        used: at.used,
-    }
-}
 
-// A line that is open at the end of the input is the last one.
-fn last_line(
-    line: &[u8],
-    out: &mut [u8],
-    bytes: &mut [u8],
-    words: &mut [u64],
-    counts: &mut [u32],
-    at: Answered,
-) -> Answered
-    requires { at.used + answer_size ≤ length out.old }
-    ensures { (progress_in result.order result.used out.new bytes.new words.new counts.new ≡ last_line line.now (progress_in at.order at.used out.old bytes.old words.old counts.old))
-        × (result.used ≤ at.used + answer_size) }
-{
-    if line.len() == 0 {
-        return at;
+    // What was printed has been written.
+    #[tactic(auto, unfolding(crate::specs::Feeding::emptied))]
+    pub fn empty(&mut self)
+        ensures { reading_in self.new ≡ emptied (reading_in self.old) }
+    {
+        self.used = 0;
     }
-    end_line(line, out, bytes, words, counts, at)
-}
 
-// The input is at its end: the last line, then the marked numbers.
-pub fn finish(
-    line: &[u8],
-    out: &mut [u8],
-    bytes: &mut [u8],
-    words: &mut [u64],
-    counts: &mut [u32],
-    from: State,
-) -> Answered
-    requires { (from.filled ≤ length line.now) × (from.used + (answer_size + marked_size) ≤ length out.old) }
-    ensures { (progress_in result.order result.used out.new bytes.new words.new counts.new ≡ finished (reading_in from line.now out.old bytes.old words.old counts.old))
-        × (result.used ≤ length out.new) }
-{
-    let order = from.order;
-    let filled = from.filled;
-    let at = Answered {
-        order,
-        used: from.used,
-    };
-    let last = last_line(&line[..filled], out, bytes, words, counts, at);
-    let order = last.order;
-    let used = marked::print(out, last.used, marking::report(bytes, words, order));
-    Answered { order, used }
+    pub fn printed(&self) -> &[u8]
+        ensures { result.now ≡ (progress_in self.now).printed }
+    {
+        &self.out[..self.used]
+    }
+
+    // A line that is open at the end of the input is the last one.
+    fn last_line(&mut self)
+        requires { self.old.used + answer_size ≤ OUT }
+        ensures closes { progress_in self.new ≡ closed (reading_in self.old) }
+        ensures room { self.new.used ≤ self.old.used + answer_size }
+    {
+        if self.filled > 0 {
+            self.end_line();
+        }
+    }
+
+    // The input is at its end: the last line, then the marked numbers.
+    pub fn finish(&mut self)
+        requires { self.old.used + (answer_size + marked_size) ≤ OUT }
+        ensures { progress_in self.new ≡ finished (reading_in self.old) }
+    {
+        self.last_line();
+        let report = self.monitor.report();
+        self.used = marked::print(&mut self.out, self.used, report);
+    }
 }

@@ -1,32 +1,97 @@
 // What a line does.
 ghost use Rattle.std.specs.Prelude.{◌≡◌};
+ghost use Rattle.rows.specs.Size.{present};
 ghost use Rattle.model.specs.State.{memory};
+ghost use Rattle.model.specs.Monitor.{report};
+ghost use Rattle.model.specs.Tallies.{zeroed};
 ghost use Rattle.tallies.specs.Counts.{records_in};
+ghost use Rattle.script.specs.Script.{no_order};
+ghost use Rattle.trail.specs.Script.{zeros};
 ghost use Rattle.trail.specs.Lines.{leaves, reply_to, asked, started_with, line_done};
 
 use levels::Order;
-use model::Call;
-use script::Line;
+use model::{Call, Report};
+use script::Command;
 use script::print::Reply;
 
-// What answers a line, and the order that is kept for the next: that of the last granted start.
-#[derive(Clone, Copy)]
-pub struct Done {
-    pub reply: Reply,
-    pub order: Order,
+// The list of tallies: a record for each number, three counts to a record.
+const TALLIES: usize = tallies::COUNTS * records::RECORDS;
+
+// What is kept from line to line: the memory that the monitor is lent, its tallies, and the order of the last granted start.
+#[derive(Drop)]
+pub struct Monitor {
+    bytes: [u8; records::BYTES],
+    words: [u64; rows::WORDS],
+    counts: [u32; TALLIES],
+    order: Order,
 }
 
-#[tactic(auto, unfolding(crate::specs::Lines::started_with, crate::specs::Lines::answered))]
-fn start(bytes: &mut [u8], words: &mut [u64], counts: &mut [u32], kept: Order, order: Order) -> Done
-    ensures { leaves result bytes.new words.new counts.new ≡ started_with (memory bytes.old words.old) (records_in counts.old) kept order }
-{
-    let answer = calls::perform(bytes, words, counts, order, table::TABLE, Call::Start);
-    let verdict = answer.verdict;
-    let reply = Reply::Verdict(verdict);
-    if verdict == model::GRANTED {
-        Done { reply, order }
-    } else {
-        Done { reply, order: kept }
+impl Monitor {
+    // Before the first line. The order is all zero before the first granted start.
+    pub fn new() -> Monitor
+        ensures { (result.order ≡ no_order) × (memory result.bytes result.words ≡ zeros) × (records_in result.counts ≡ zeroed present) }
+    {
+        Monitor {
+            bytes: [0; records::BYTES],
+            words: [0; rows::WORDS],
+            counts: [0; TALLIES],
+            order: Order {
+                rows: [0; 16],
+                count: 0,
+                top: 0,
+            },
+        }
+    }
+
+    pub fn report(&self) -> Report
+        ensures { result ≡ report self.now.order (memory self.now.bytes self.now.words) }
+    {
+        marking::report(&self.bytes, &self.words, self.order)
+    }
+
+    #[tactic(auto, unfolding(crate::specs::Lines::started_with, crate::specs::Lines::answered))]
+    fn start(&mut self, order: Order) -> Reply
+        ensures { leaves result self.new ≡ started_with (memory self.old.bytes self.old.words) (records_in self.old.counts) self.old.order order }
+    {
+        let answer = calls::perform(
+            &mut self.bytes,
+            &mut self.words,
+            &mut self.counts,
+            order,
+            table::TABLE,
+            Call::Start,
+        );
+        if answer.verdict == model::GRANTED {
+            self.order = order;
+        }
+        Reply::Verdict(answer.verdict)
+    }
+
+    #[tactic(auto, unfolding(crate::specs::Lines::asked, crate::specs::Lines::answered))]
+    fn ask(&mut self, call: Call) -> Reply
+        ensures { leaves result self.new ≡ asked (memory self.old.bytes self.old.words) (records_in self.old.counts) self.old.order call }
+    {
+        let order = self.order;
+        let answer = calls::perform(
+            &mut self.bytes,
+            &mut self.words,
+            &mut self.counts,
+            order,
+            table::TABLE,
+            call,
+        );
+        reply_to(call, answer.verdict, answer.rounds)
+    }
+
+    #[tactic(auto, unfolding(crate::specs::Lines::line_done, crate::specs::Lines::done_by))]
+    pub fn do_line(&mut self, line: &[u8]) -> Reply
+        ensures { leaves result self.new ≡ line_done (memory self.old.bytes self.old.words) (records_in self.old.counts) self.old.order line.now }
+    {
+        match script::read_line(line) {
+            None => Reply::Bad,
+            Some(Command::Start(order)) => self.start(order),
+            Some(Command::Ask(call)) => self.ask(call),
+        }
     }
 }
 
@@ -37,37 +102,5 @@ fn reply_to(call: Call, verdict: u8, rounds: u8) -> Reply
     match call {
         Call::Spread => Reply::Rounds(verdict, rounds),
         _ => Reply::Verdict(verdict),
-    }
-}
-
-fn ask(bytes: &mut [u8], words: &mut [u64], counts: &mut [u32], order: Order, call: Call) -> Done
-    ensures { leaves result bytes.new words.new counts.new ≡ asked (memory bytes.old words.old) (records_in counts.old) order call }
-{
-    let answer = calls::perform(bytes, words, counts, order, table::TABLE, call);
-    let reply = reply_to(call, answer.verdict, answer.rounds);
-    Done { reply, order }
-}
-
-pub fn do_line(
-    line: &[u8],
-    bytes: &mut [u8],
-    words: &mut [u64],
-    counts: &mut [u32],
-    order: Order,
-) -> Done
-    ensures { leaves result bytes.new words.new counts.new ≡ line_done (memory bytes.old words.old) (records_in counts.old) order line.now }
-{
-    let parsed = script::read_line(line);
-    let kind = parsed.line;
-    match kind {
-        Line::Bad => Done {
-            reply: Reply::Bad,
-            order,
-        },
-        Line::Starts => {
-            let own = parsed.order;
-            start(bytes, words, counts, order, own)
-        }
-        Line::Asks(call) => ask(bytes, words, counts, order, call),
     }
 }

@@ -1,21 +1,9 @@
-use Rattle.std.proofs.Common.{refl, ap}
-use Rattle.trail.specs.Feeding.{emptied}
+use Rattle.std.proofs.lemmas.Result.{err_from_is_err_and}
+use Rattle.trail.specs.Buffers.{reading_in}
 use Rattle.trail.proofs.BufferLaws.{no_piece}
 use Rattle.trail.proofs.read_piece.Goals as goal
 
-pub returns-in-Err : goal.returns-in-Err
-returns-in-Err c =
-    let a = c.args in
-    (no_piece a.state a.line.now a.out.now a.bytes.now a.words.now a.counts.now c.requires.2, c.requires.1, c.requires.2)
-
-pub returns-then-n-eq0 : goal.returns-then-n-eq0
-returns-then-n-eq0 c =
-    let a = c.args in
-    (no_piece a.state a.line.now a.out.now a.bytes.now a.words.now a.counts.now c.requires.2, c.requires.1, c.requires.2)
-
-pub returns : goal.returns
-unfolding emptied
-returns c =
-    let f = c.feed-next.ensures in
-    let e = c.emptied.ensures in
-    (rw e (ap emptied f.0), rw e f.1, rw e refl)
+pub returns-in_err-n : goal.returns-in_err-n
+returns-in_err-n c =
+    let p = err_from_is_err_and c.from_residual.result c.from_residual.ensures.1 in
+    rw p.1 (0, no_piece (reading_in c.args.state.now) (rw c.requires.1))

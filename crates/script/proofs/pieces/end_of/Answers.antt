@@ -1,16 +1,9 @@
-use Rattle.std.proofs.Common.{drop_of_length-le, arith}
-use Rattle.script.specs.Pieces.{first}
-use Rattle.script.specs.PiecesLaws.{first_space, first_more}
+use Rattle.std.proofs.Common.{eqb, rules, tests, ◌∙◌}
+use Rattle.std.proofs.lemmas.Iterator.{YieldsList-from_slice}
+use Rattle.std.proofs.lemmas.Iterator.Search.{position_from_yields_List}
+use Rattle.script.specs.Script.{space}
+use Rattle.script.specs.PiecesLaws.{first_end}
 use Rattle.script.proofs.pieces.end_of.Goals as goal
 
-pub returns-then-line-i-eq32 : goal.returns-then-line-i-eq32
-returns-then-line-i-eq32 c = omega (arith, first_space c.args.line.now c.loop-i.i (omega arith) c.if-line-i-eq32.true)
-
-pub loop-i-preserved : goal.loop-i-preserved
-loop-i-preserved c = omega (arith, first_more c.args.line.now c.loop-i.i (omega arith) c.if-line-i-eq32.false)
-
 pub returns : goal.returns
-unfolding first
-returns c =
-    let none = drop_of_length-le c.args.line.now {i = c.loop-i.i} (omega arith) in
-    omega (arith, rw none at c.loop-i.invariant)
+returns c = c.unwrap_or.ensures ∙ first_end c.args.line.now (position_from_yields_List (λ b. eqb b space) _ _ c.position.result c.position.ensures.ran (YieldsList-from_slice c.args.line.now cc) (λ x b q k. search (rules, tests)))
