@@ -5,6 +5,8 @@ use Rattle.rows.specs.Size.{Size, numbers_of}
 use Rattle.records.specs.Records.{record_size, field}
 use Rattle.model.specs.Verdicts.{granted}
 use Rattle.model.specs.State.{MemoryOf}
+use Rattle.model.specs.declared.Told.{Told}
+use Rattle.model.specs.declared.Told.TheVariants.{Nothing, Yes, No}
 use Rattle.model.specs.declared.Call.{Call}
 use Rattle.model.specs.declared.Call.TheVariants.{Start, Read, Write, Execute, Create, CreateRoot, Move, Delete, CallTask, Invoke, Pass, Post, Find, Mark, Step, Spread}
 
@@ -18,6 +20,12 @@ told_yes = 1
 
 abbrev pub told_no : ℕ
 told_no = 2
+
+-- the word of what the code tells
+abbrev pub word_of : Told → ℕ
+word_of Nothing = no_word
+word_of Yes = told_yes
+word_of No = told_no
 
 -- "yes for verdict 0, no for all others": a slip is no
 unfoldable pub yes_or_no : ℕ → ℕ

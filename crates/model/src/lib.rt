@@ -3,6 +3,7 @@
 
 ghost use Rattle.std.specs.Prelude.{◌≡◌};
 ghost use Rattle.model.specs.Verdicts.{is_done, number_of, IsVerdict};
+ghost use Rattle.model.specs.Told.{word_of};
 
 // A call with its numbers, told by document 01's letters. Levels are as wide as thing numbers, so that what a caller names reaches
 // the rules uncut.
@@ -41,6 +42,7 @@ pub enum Call {
 }
 
 // What a call answers: a verdict of the table, the rounds of a spread, and the word that the driver is told.
+// By hand: C reads this, as it does the report and what is checked, so verdict and word stand here by their numbers.
 #[repr(C)]
 #[derive(Clone, Copy)]
 pub struct Answer {
@@ -147,10 +149,19 @@ impl TryFrom<u8> for Verdict {
     }
 }
 
-// The told word.
-// By hand: a number, since C reads it, and the definitions of specs/Told are numbers.
-pub const NO_WORD: u8 = 0;
+// What the driver is told of a call, in the order of the numbers.
+#[derive(Clone, Copy, Debug, PartialEq, Eq)]
+pub enum Told {
+    Nothing,
+    Yes,
+    No,
+}
 
-pub const TOLD_YES: u8 = 1;
-
-pub const TOLD_NO: u8 = 2;
+impl Told {
+    // The word, as C reads it.
+    pub fn word(self) -> u8
+        ensures { result ≡ word_of self }
+    {
+        self as u8
+    }
+}

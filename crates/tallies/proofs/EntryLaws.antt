@@ -11,7 +11,7 @@ use Rattle.rows.specs.Size.{present, numbers}
 use Rattle.levels.specs.declared.Order.{Order}
 use Rattle.model.specs.declared.Tally.{Tally}
 use Rattle.model.specs.declared.Call.{Call}
-use Rattle.model.specs.Verdicts.{granted, row_state}
+use Rattle.model.specs.Verdicts.{granted, row_state, number_of}
 use Rattle.model.specs.State.{Memory}
 use Rattle.model.specs.Events.{Outcome}
 use Rattle.model.specs.Monitor.{refused_unless, perform}
@@ -27,22 +27,22 @@ module _ (n : Entry) (ts : List Tally) where
   unfolding entered_as list_fits
   unfit_kept h = rw (ne_eqb _ _ h)
 
-  pub fit_entered : length ts ≡ numbers → raised_at n.number n.answer.verdict (cond n.anew (zeroed present) ts) ≡ entered_as n ts
+  pub fit_entered : length ts ≡ numbers → raised_at n.number (number_of n.verdict) (cond n.anew (zeroed present) ts) ≡ entered_as n ts
   unfolding entered_as list_fits
   fit_entered e = rw (eq-eqb _ _ e)
 
 -- ---- an outcome that a list of another length refuses, and its entry in the list. Which record counts, and whether the list begins anew, goes by the verdict
 
 module _ (m : Memory) (ts : List Tally) (out given : Outcome) (n : Entry) (on : ℕ → ℕ) (anew : ℕ → Bool) where
-  in_its_list : given ≡ out → n.answer.verdict ≡ given.verdict → Enters n (on n.answer.verdict) (anew n.answer.verdict) → tallied given (raised_at n.number n.answer.verdict (cond n.anew (zeroed present) ts)) ≡ counted (anew out.verdict) (on out.verdict) ts out
+  in_its_list : given ≡ out → number_of n.verdict ≡ given.verdict → Enters n (on (number_of n.verdict)) (anew (number_of n.verdict)) → tallied given (raised_at n.number (number_of n.verdict) (cond n.anew (zeroed present) ts)) ≡ counted (anew out.verdict) (on out.verdict) ts out
   unfolding counted
   in_its_list g v s =
-      let w : n.answer.verdict ≡ out.verdict = v ∙ ap (λ (a : Outcome). a.verdict) g in
+      let w : number_of n.verdict ≡ out.verdict = v ∙ ap (λ (a : Outcome). a.verdict) g in
       let r : n.number ≡ on out.verdict = s.0 ∙ ap on w in
       let z = ap (λ (y : Bool). cond y (zeroed present) ts) (s.1 ∙ ap anew w) in
       λ i. tallied (g i) (raised_at (r i) (w i) (z i))
 
-  pub entered_is : given ≡ refused_unless (eqb (length ts) numbers) row_state m out → n.answer.verdict ≡ given.verdict → Enters n (on n.answer.verdict) (anew n.answer.verdict) → tallied given (entered_as n ts) ≡ with_list m ts (counted (anew out.verdict) (on out.verdict) ts out)
+  pub entered_is : given ≡ refused_unless (eqb (length ts) numbers) row_state m out → number_of n.verdict ≡ given.verdict → Enters n (on (number_of n.verdict)) (anew (number_of n.verdict)) → tallied given (entered_as n ts) ≡ with_list m ts (counted (anew out.verdict) (on out.verdict) ts out)
   unfolding refused_unless list_fits entered_as with_list
   entered_is e v s =
       ⊎_elim
@@ -51,10 +51,10 @@ module _ (m : Memory) (ts : List Tally) (out given : Outcome) (n : Entry) (on : 
       (either (eqb (length ts) numbers))
 
 module _ (o : Order) (m : Memory) (ts : List Tally) where
-  pub performed_is : (c : Call) (given : Outcome) (n : Entry) → given ≡ refused_unless (eqb (length ts) numbers) row_state m (perform o m c) → n.answer.verdict ≡ given.verdict → Enters n (counted_on m c n.answer.verdict) (is_start c && eqb n.answer.verdict granted) → tallied given (entered_as n ts) ≡ performed o m ts c
+  pub performed_is : (c : Call) (given : Outcome) (n : Entry) → given ≡ refused_unless (eqb (length ts) numbers) row_state m (perform o m c) → number_of n.verdict ≡ given.verdict → Enters n (counted_on m c (number_of n.verdict)) (is_start c && eqb (number_of n.verdict) granted) → tallied given (entered_as n ts) ≡ performed o m ts c
   unfolding performed
   performed_is c given n = entered_is m ts (perform o m c) given n (counted_on m c) (λ v. is_start c && eqb v granted)
 
-  pub loaded_is : (t : List ℕ) (given : Outcome) (n : Entry) → given ≡ refused_unless (eqb (length ts) numbers) row_state m (load o m t) → n.answer.verdict ≡ given.verdict → Enters n 0 (eqb n.answer.verdict granted) → tallied given (entered_as n ts) ≡ loaded o m ts t
+  pub loaded_is : (t : List ℕ) (given : Outcome) (n : Entry) → given ≡ refused_unless (eqb (length ts) numbers) row_state m (load o m t) → number_of n.verdict ≡ given.verdict → Enters n 0 (eqb (number_of n.verdict) granted) → tallied given (entered_as n ts) ≡ loaded o m ts t
   unfolding loaded
   loaded_is t given n = entered_is m ts (load o m t) given n (λ v. 0) (λ v. eqb v granted)

@@ -4,7 +4,14 @@ use Rattle.std.specs.Prelude.{◌≡◌, Bool, cond, List, ℕ, ◌<◌}
 use Rattle.rows.specs.Size.{present, numbers}
 use Rattle.model.specs.declared.Tally.{Tally}
 use Rattle.model.specs.Tallies.{list_fits, zeroed, raised_at}
+use Rattle.model.specs.declared.Answer.{Answer}
+use Rattle.model.specs.Verdicts.{number_of}
+use Rattle.model.specs.Told.{word_of}
 use Rattle.tallies.specs.declared.Entry.{Entry}
+
+-- the answer of a call, as C reads it
+abbrev pub answer_of : Entry → Answer
+answer_of n = record { verdict = number_of n.verdict; rounds = n.rounds; told = word_of n.told }
 
 -- its record is one of a list of the right length
 abbrev pub InList : Entry → Type 0
@@ -16,4 +23,4 @@ Enters n i anew = (n.number ≡ i) × (n.anew ≡ anew)
 
 -- zeroed if it begins anew, then one record raised; a list of another length stays as it is
 unfoldable pub entered_as : Entry → List Tally → List Tally
-entered_as n ts = cond (list_fits present ts) (raised_at n.number n.answer.verdict (cond n.anew (zeroed present) ts)) ts
+entered_as n ts = cond (list_fits present ts) (raised_at n.number (number_of n.verdict) (cond n.anew (zeroed present) ts)) ts

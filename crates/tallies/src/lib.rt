@@ -4,14 +4,15 @@
 ghost use Rattle.std.specs.Prelude.{◌≡◌, List, [], ℕ, ◌<◌, length};
 ghost use Rattle.rows.specs.Size.{present, numbers};
 ghost use Rattle.records.specs.Records.{BytesLent};
+ghost use Rattle.model.specs.Verdicts.{number_of};
 ghost use Rattle.model.specs.State.{memory};
 ghost use Rattle.model.specs.Tallies as model;
 ghost use Rattle.model.specs.Tallies.{one_more, raised, raised_at, zeroed, if_task};
 ghost use Rattle.model.specs.declared.Tally.{Tally};
-ghost use Rattle.tallies.specs.Entries.{InList, entered_as};
+ghost use Rattle.tallies.specs.Entries.{InList, answer_of, entered_as};
 ghost use Rattle.tallies.specs.Counts.{records_in, left_over};
 
-use model::{Answer, Call, Tally};
+use model::{Answer, Call, Tally, Told, Verdict};
 
 // How many counts a record has, where a list is lent as plain numbers.
 pub const COUNTS: usize = 3;
@@ -22,7 +23,22 @@ pub const COUNTS: usize = 3;
 pub struct Entry {
     pub number: u16,
     pub anew: bool,
-    pub answer: Answer,
+    pub verdict: Verdict,
+    pub rounds: u8,
+    pub told: Told,
+}
+
+impl Entry {
+    // As C reads it.
+    pub fn answer(&self) -> Answer
+        ensures { result ≡ answer_of self.now }
+    {
+        Answer {
+            verdict: self.verdict.number(),
+            rounds: self.rounds,
+            told: self.told.word(),
+        }
+    }
 }
 
 // One more, stopping at the most that 32 bits hold.
@@ -35,15 +51,15 @@ fn one_more(n: u32) -> u32
 
 // The record with a verdict counted.
 #[tactic(auto, using(std::proofs::lemmas::Bool::Decides::nat_tests), unfolding(model::specs::Tallies::raised))]
-fn raise(tally: Tally, verdict: u8) -> Tally
-    ensures { result ≡ raised tally verdict }
+fn raise(tally: Tally, verdict: Verdict) -> Tally
+    ensures { result ≡ raised tally (number_of verdict) }
 {
     match verdict {
-        model::GRANTED => Tally {
+        Verdict::Granted => Tally {
             granted: one_more(tally.granted),
             ..tally
         },
-        model::SLIPPED => Tally {
+        Verdict::Slipped => Tally {
             slipped: one_more(tally.slipped),
             ..tally
         },
@@ -102,9 +118,9 @@ trait Element: Copy {
         ensures { (held list.new ≡ zeroed present) × (rest list.new ≡ rest list.old) };
 
     // The record of a number.
-    fn raise_at(list: &mut [Self], number: usize, verdict: u8)
+    fn raise_at(list: &mut [Self], number: usize, verdict: Verdict)
         requires { number < length (held list.old) }
-        ensures { (held list.new ≡ raised_at number verdict (held list.old)) × (rest list.new ≡ rest list.old) };
+        ensures { (held list.new ≡ raised_at number (number_of verdict) (held list.old)) × (rest list.new ≡ rest list.old) };
 }
 
 #[tactic(auto, unfolding(model::specs::Tallies::raised_at, model::specs::Tallies::zeroed))]
@@ -121,7 +137,7 @@ impl Element for Tally {
         list.fill(Tally::default());
     }
 
-    fn raise_at(list: &mut [Tally], number: usize, verdict: u8) {
+    fn raise_at(list: &mut [Tally], number: usize, verdict: Verdict) {
         list[number] = raise(list[number], verdict);
     }
 }
@@ -140,7 +156,7 @@ impl Element for u32 {
         list[..COUNTS * records::RECORDS].fill(0);
     }
 
-    fn raise_at(list: &mut [u32], number: usize, verdict: u8) {
+    fn raise_at(list: &mut [u32], number: usize, verdict: Verdict) {
         let i = COUNTS * number;
         let before = Tally {
             granted: list[i],
@@ -166,7 +182,7 @@ fn enter_in<E: Element>(list: &mut [E], entry: Entry)
     if entry.anew {
         E::zero(list);
     }
-    E::raise_at(list, entry.number as usize, entry.answer.verdict);
+    E::raise_at(list, entry.number as usize, entry.verdict);
 }
 
 // Enters a call in a list of records.

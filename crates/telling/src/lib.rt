@@ -2,27 +2,27 @@
 #![tactic(auto)]
 
 ghost use Rattle.std.specs.Prelude.{◌≡◌};
+ghost use Rattle.model.specs.Verdicts.{number_of};
 ghost use Rattle.model.specs.Told as model;
-ghost use Rattle.model.specs.Told.{yes_or_no};
+ghost use Rattle.model.specs.Told.{word_of, yes_or_no};
 
-use model::Call;
+use model::{Call, Told, Verdict};
 
 // Yes for what is granted, and no for all else, a slip too.
 #[tactic(auto, unfolding(model::specs::Told::yes_or_no))]
-fn yes_or_no(verdict: u8) -> u8
-    ensures { result ≡ yes_or_no verdict }
+fn yes_or_no(verdict: Verdict) -> Told
+    ensures { word_of result ≡ yes_or_no (number_of verdict) }
 {
-    if verdict == model::GRANTED {
-        model::TOLD_YES
-    } else {
-        model::TOLD_NO
+    match verdict {
+        Verdict::Granted => Told::Yes,
+        _ => Told::No,
     }
 }
 
 // The word of a call that came to a verdict.
 #[tactic(auto, unfolding(model::specs::Told::told))]
-pub fn told(call: Call, verdict: u8) -> u8
-    ensures { result ≡ model.told call verdict }
+pub fn told(call: Call, verdict: Verdict) -> Told
+    ensures { word_of result ≡ model.told call (number_of verdict) }
 {
     match call {
         Call::Read(..)
@@ -40,6 +40,6 @@ pub fn told(call: Call, verdict: u8) -> u8
         | Call::Find(..)
         | Call::Mark(_)
         | Call::Step(_)
-        | Call::Spread => model::NO_WORD,
+        | Call::Spread => Told::Nothing,
     }
 }
