@@ -7,7 +7,7 @@ ghost use Rattle.model.specs.Effects.{flow_if, make_task, make_object, effects};
 
 use decisions::Decision;
 use decisions::effects::{record_both, record_first};
-use records::{OBJECT, TASK, set_record};
+use records::{OBJECT, Record, TASK, set_record};
 
 pub fn execute(
     bytes: &mut [u8],
@@ -21,7 +21,13 @@ pub fn execute(
     requires { (l < 16) × (r < 16) }
     ensures { memory bytes.new words.new ≡ effects (make_task n l r ∷ flow_if judged.first i n ∷ []) (memory bytes.old words.old) }
 {
-    set_record(bytes, n, TASK, l as u8, r as u8, 0, 0, 0);
+    let task = Record {
+        kind: TASK,
+        level: l as u8,
+        read_level: r as u8,
+        ..Record::FREE
+    };
+    set_record(bytes, n, task);
     record_first(words, judged, i, n);
 }
 
@@ -39,15 +45,14 @@ pub fn create(
     requires { (d < numbers) × (k < 0x100) × (l < 16) }
     ensures { (p : Place) → k ≡ container_byte p present → memory bytes.new words.new ≡ effects (make_object n l d p judged.first ∷ flow_if judged.first c n ∷ flow_if judged.second c d ∷ []) (memory bytes.old words.old) }
 {
-    set_record(
-        bytes,
-        n,
-        OBJECT,
-        l as u8,
-        0,
-        d as u8,
-        k as u8,
-        judged.first as u8,
-    );
+    let object = Record {
+        kind: OBJECT,
+        level: l as u8,
+        driver: d as u8,
+        container: k as u8,
+        marks: judged.first as u8,
+        ..Record::FREE
+    };
+    set_record(bytes, n, object);
     record_both(words, judged, c, n, c, d);
 }

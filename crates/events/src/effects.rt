@@ -8,7 +8,7 @@ ghost use Rattle.events.specs.Judged.{read_does, write_does, move_does, delete_d
 
 use decisions::Decision;
 use decisions::effects::{add_access, record_both};
-use records::{CONTAINER, FREE, set_field, set_record};
+use records::{CONTAINER, Record, set_field, set_record};
 use rows::{READS, WRITES};
 
 pub fn read(words: &mut [u64], judged: Decision, e: u16, d: u16, x: u16)
@@ -49,7 +49,7 @@ pub fn delete(bytes: &mut [u8], words: &mut [u64], judged: Decision, e: u16, d: 
     ensures { memory bytes.new words.new ≡ effects (delete_does e d x judged.first judged.second) (memory bytes.old words.old) }
 {
     bridging::bridge(bytes, words, x);
-    set_record(bytes, x, FREE, 0, 0, 0, 0, 0);
+    set_record(bytes, x, Record::FREE);
     rows::clear_thing(words, x);
     rows::add_if(words, judged.first, e, d);
 }

@@ -123,8 +123,9 @@ pub fn move_object<E: Engine>(view: &View, e: u16, d: u16, x: u16, f: u16, t: u1
 }
 
 // y is an object in x. The container is asked first: few records have that one, and the others need no look at their kind.
+// By hand: the view's own methods ask at each number whether the bytes end before it, which is slower.
 #[tactic(auto, unfolding(records::specs::Records::field, records::specs::Records::is_object))]
-fn lies_in(view: &View, y: u16, x: u16) -> bool
+fn is_object_in(view: &View, y: u16, x: u16) -> bool
     requires { y < numbers }
     ensures { result ≡ (is_object view.now.bytes.now y && eqb (container view.now.bytes.now y) x) }
 {
@@ -137,7 +138,7 @@ fn lies_in(view: &View, y: u16, x: u16) -> bool
 fn is_empty(view: &View, x: u16) -> bool
     ensures { result ≡ is_empty view.now.bytes.now x }
 {
-    !(0..NUMBERS).any(|y| lies_in(view, y, x))
+    !(0..NUMBERS).any(|y| is_object_in(view, y, x))
 }
 
 // The two rows below the rule. The records and the flows are gone through only where no row above them refuses.

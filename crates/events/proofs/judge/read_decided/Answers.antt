@@ -1,3 +1,4 @@
+use Rattle.std.proofs.Common.{refl}
 use Rattle.model.specs.State.{marked}
 use Rattle.decisions.specs.FactLaws.{levelled, level_by_row, read_by_row}
 use Rattle.events.specs.Judged.{read_ruled}
@@ -19,4 +20,4 @@ returns g c =
       c.read_row-read.ensures,
       level_by_row _ _ ok,
       read_by_row _ _ ok,
-    )
+    ) refl
