@@ -5,6 +5,8 @@ use Rattle.levels.specs.declared.Order.{Order}
 use Rattle.layout.specs.Layout.{line_feed, closing}
 use Rattle.layout.specs.Answers.{stands_at}
 use Rattle.model.specs.declared.Call.{Call}
+use Rattle.model.specs.declared.Verdict.{Verdict}
+use Rattle.model.specs.Verdicts.{number_of}
 use Rattle.model.specs.State.{Memory}
 use Rattle.model.specs.Ready.{Ready}
 use Rattle.model.specs.Events.{Outcome}
@@ -21,9 +23,9 @@ abbrev pub ObjectAt : List ℕ → ℕ → Type 0
 ObjectAt t at = FormAt false t at
 
 -- the calls that are left after what was made, on a memory; or the end
-unfoldable pub turned : {A : Type 0} → Order → (A → List Call) → Result A ℕ → Memory → Outcome
+unfoldable pub turned : {A : Type 0} → Order → (A → List Call) → Result A Verdict → Memory → Outcome
 turned o calls (Ok a) m = in_turn o (calls a) m
-turned o calls (Err v) m = record { verdict = v; rounds = 0; memory = m }
+turned o calls (Err v) m = record { verdict = number_of v; rounds = 0; memory = m }
 
 -- what goes on, goes on further on in the text, and on a memory that is ready
 abbrev pub Further : Order → List ℕ → ℕ → ℕ → List ℕ → List ℕ → Type 0

@@ -3,6 +3,7 @@
 
 ghost use Rattle.std.specs.Prelude.{◌≡◌, IfOk, List, [], ◌∷◌, ◌<◌, length, drop, reverse};
 ghost use Rattle.layout.specs.Layout.{most_deep};
+ghost use Rattle.model.specs.Verdicts.{number_of};
 ghost use Rattle.model.specs.State.{memory};
 ghost use Rattle.model.specs.Ready.{Ready};
 ghost use Rattle.model.specs.Events.{left};
@@ -13,7 +14,7 @@ ghost use Rattle.loading.specs.Forms.{TaskAt, ObjectAt, turned, Further};
 use layout::MOST_LEVELS;
 use layout::fields::{Found, Object, Task, head_at, is_at, task_at};
 use levels::Order;
-use model::{GRANTED, SLIPPED};
+use model::Verdict;
 use table::Engine;
 
 // An open object: its own number and its driver's.
@@ -24,16 +25,15 @@ pub struct Holder {
 }
 
 // An object in a container: the core and the object's driver each write to the container, through its driver, first.
-fn create_in(
+fn create_in<E: Engine>(
     bytes: &mut [u8],
     words: &mut [u64],
-    order: Order,
-    engine: Engine,
+    order: &Order,
     container: Holder,
     object: Object,
-) -> u8
-    requires { Ready order bytes.old words.old }
-    ensures { left result 0 bytes.new words.new ≡ in_turn order (object_calls (container ∷ []) object) (memory bytes.old words.old) }
+) -> Verdict
+    requires { Ready order.now bytes.old words.old }
+    ensures { left (number_of result) 0 bytes.new words.new ≡ in_turn order.now (object_calls (container ∷ []) object) (memory bytes.old words.old) }
 {
     let Object {
         number,
@@ -42,28 +42,27 @@ fn create_in(
     } = object;
     let holder = container.driver;
     let container = container.number;
-    let core = events::write(bytes, words, order, engine, 0, holder, container);
-    if core > SLIPPED {
+    let core = events::write::<E>(bytes, words, order, 0, holder, container);
+    if !core.is_done() {
         return core;
     }
-    let other = events::write(bytes, words, order, engine, driver, holder, container);
-    if other > SLIPPED {
+    let other = events::write::<E>(bytes, words, order, driver, holder, container);
+    if !other.is_done() {
         return other;
     }
     creation::create(bytes, words, order, 0, driver, number, container, level)
 }
 
 // An object in the innermost of the open ones, which is the last, or a root where none is open.
-fn create(
+fn create<E: Engine>(
     bytes: &mut [u8],
     words: &mut [u64],
-    order: Order,
-    engine: Engine,
+    order: &Order,
     open: &[Holder],
     object: Object,
-) -> u8
-    requires { Ready order bytes.old words.old }
-    ensures { left result 0 bytes.new words.new ≡ in_turn order (object_calls (reverse open.now) object) (memory bytes.old words.old) }
+) -> Verdict
+    requires { Ready order.now bytes.old words.old }
+    ensures { left (number_of result) 0 bytes.new words.new ≡ in_turn order.now (object_calls (reverse open.now) object) (memory bytes.old words.old) }
 {
     let Some(container) = open.last() else {
         let Object {
@@ -73,7 +72,7 @@ fn create(
         } = object;
         return creation::create_root(bytes, words, order, 0, driver, number, level);
     };
-    create_in(bytes, words, order, engine, *container, object)
+    create_in::<E>(bytes, words, order, *container, object)
 }
 
 // ---- a form comes to the place where the text goes on, or to the verdict that ends it
@@ -82,16 +81,16 @@ fn create(
 fn task(
     bytes: &mut [u8],
     words: &mut [u64],
-    order: Order,
+    order: &Order,
     text: &[u8],
     at: usize,
-) -> Result<usize, u8>
-    requires { Ready order bytes.old words.old × TaskAt text.now at }
-    ensures further { IfOk result (λ end. Further order text.now at end bytes.new words.new) }
-    ensures words_after { (s : List Holder) → turned order (λ end. calls_from s (drop end text.now)) result (memory bytes.new words.new) ≡ in_turn order (calls_from s (drop at text.now)) (memory bytes.old words.old) }
+) -> Result<usize, Verdict>
+    requires { Ready order.now bytes.old words.old × TaskAt text.now at }
+    ensures further { IfOk result (λ end. Further order.now text.now at end bytes.new words.new) }
+    ensures words_after { (s : List Holder) → turned order.now (λ end. calls_from s (drop end text.now)) result (memory bytes.new words.new) ≡ in_turn order.now (calls_from s (drop at text.now)) (memory bytes.old words.old) }
 {
     let Ok(Found { value: task, end }) = task_at(text, at) else {
-        return Err(GRANTED);
+        return Err(Verdict::Granted);
     };
     let Task {
         number,
@@ -100,31 +99,30 @@ fn task(
         reads,
     } = task;
     let verdict = creation::execute(bytes, words, order, 0, image, number, level, reads);
-    if verdict > SLIPPED {
+    if !verdict.is_done() {
         return Err(verdict);
     }
     Ok(end)
 }
 
 // An object, which is open then.
-fn object(
+fn object<E: Engine>(
     bytes: &mut [u8],
     words: &mut [u64],
-    order: Order,
-    engine: Engine,
+    order: &Order,
     text: &[u8],
     at: usize,
     open: &[Holder],
-) -> Result<Found<Holder>, u8>
-    requires { Ready order bytes.old words.old × ObjectAt text.now at × (length open.now < most_deep) }
-    ensures further { IfOk result (λ f. Further order text.now at f.end bytes.new words.new) }
-    ensures words_after { turned order (λ f. calls_from (f.value ∷ reverse open.now) (drop f.end text.now)) result (memory bytes.new words.new) ≡ in_turn order (calls_from (reverse open.now) (drop at text.now)) (memory bytes.old words.old) }
+) -> Result<Found<Holder>, Verdict>
+    requires { Ready order.now bytes.old words.old × ObjectAt text.now at × (length open.now < most_deep) }
+    ensures further { IfOk result (λ f. Further order.now text.now at f.end bytes.new words.new) }
+    ensures words_after { turned order.now (λ f. calls_from (f.value ∷ reverse open.now) (drop f.end text.now)) result (memory bytes.new words.new) ≡ in_turn order.now (calls_from (reverse open.now) (drop at text.now)) (memory bytes.old words.old) }
 {
     let Ok(Found { value: object, end }) = head_at(text, at) else {
-        return Err(GRANTED);
+        return Err(Verdict::Granted);
     };
-    let verdict = create(bytes, words, order, engine, open, object);
-    if verdict > SLIPPED {
+    let verdict = create::<E>(bytes, words, order, open, object);
+    if !verdict.is_done() {
         return Err(verdict);
     }
     let Object { number, driver, .. } = object;
@@ -135,9 +133,14 @@ fn object(
 }
 
 // The whole text, form after form.
-pub fn lay_out(bytes: &mut [u8], words: &mut [u64], order: Order, engine: Engine, text: &[u8]) -> u8
-    requires { Ready order bytes.old words.old }
-    ensures { left result 0 bytes.new words.new ≡ in_turn order (calls_in text.now) (memory bytes.old words.old) }
+pub fn lay_out<E: Engine>(
+    bytes: &mut [u8],
+    words: &mut [u64],
+    order: &Order,
+    text: &[u8],
+) -> Verdict
+    requires { Ready order.now bytes.old words.old }
+    ensures { left (number_of result) 0 bytes.new words.new ≡ in_turn order.now (calls_in text.now) (memory bytes.old words.old) }
 {
     let none = Holder {
         number: 0,
@@ -149,7 +152,7 @@ pub fn lay_out(bytes: &mut [u8], words: &mut [u64], order: Order, engine: Engine
     while at < text.len() {
         if text[at] == b')' {
             if depth == 0 {
-                return GRANTED;
+                return Verdict::Granted;
             }
             depth -= 1;
             at += 1;
@@ -161,7 +164,7 @@ pub fn lay_out(bytes: &mut [u8], words: &mut [u64], order: Order, engine: Engine
                 Err(verdict) => return verdict,
             }
         } else if depth < MOST_LEVELS {
-            match object(bytes, words, order, engine, text, at, &held[..depth]) {
+            match object::<E>(bytes, words, order, text, at, &held[..depth]) {
                 Ok(object) => {
                     held[depth] = object.value;
                     depth += 1;
@@ -170,8 +173,8 @@ pub fn lay_out(bytes: &mut [u8], words: &mut [u64], order: Order, engine: Engine
                 Err(verdict) => return verdict,
             }
         } else {
-            return GRANTED;
+            return Verdict::Granted;
         }
     }
-    GRANTED
+    Verdict::Granted
 }

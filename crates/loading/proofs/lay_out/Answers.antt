@@ -13,13 +13,13 @@ nobody : Holder
 nobody = record { number = 0; driver = 0 }
 
 pub returns-then-depth-eq0 : goal.returns-then-depth-eq0
-returns-then-depth-eq0 c =
+returns-then-depth-eq0 g c =
     let l = c.loop-at in
     let none = c.if-depth-eq0.true in
-    turn_none c.args.order l.bytes l.words _ (rw none (closes_none c.args.text.now l.at c.loop-at-test.true c.if-text-at-eq41.true)) ∙ l.invariant.same
+    turn_none c.args.order.now l.bytes l.words _ (rw none (closes_none c.args.text.now l.at c.loop-at-test.true c.if-text-at-eq41.true)) ∙ l.invariant.same
 
 pub loop-at-preserved-then-text-at-eq41 : goal.loop-at-preserved-then-text-at-eq41
-loop-at-preserved-then-text-at-eq41 c =
+loop-at-preserved-then-text-at-eq41 g c =
     let l = c.loop-at in
     record {
       shallow = omega arith;
@@ -27,14 +27,14 @@ loop-at-preserved-then-text-at-eq41 c =
       ready = l.invariant.ready;
       places = l.invariant.places;
       few = omega arith;
-      same = ap (λ (cs : List Call). in_turn c.args.order cs (memory l.bytes l.words)) (
+      same = ap (λ (cs : List Call). in_turn c.args.order.now cs (memory l.bytes l.words)) (
           closes _ c.args.text.now l.at (get_or l.held (l.depth - 1) nobody) c.loop-at-test.true c.if-text-at-eq41.true
           ∙ ap (λ (s : List Holder). calls_from s (drop l.at c.args.text.now)) (sym (one_closes l.held l.depth nobody (omega arith) (omega arith)))
           ) ∙ l.invariant.same;
     }
 
 pub loop-at-preserved-then-text-at-eq10 : goal.loop-at-preserved-then-text-at-eq10
-loop-at-preserved-then-text-at-eq10 c =
+loop-at-preserved-then-text-at-eq10 g c =
     let l = c.loop-at in
     record {
       shallow = omega arith;
@@ -42,24 +42,24 @@ loop-at-preserved-then-text-at-eq10 c =
       ready = l.invariant.ready;
       places = l.invariant.places;
       few = l.invariant.few;
-      same = ap (λ (cs : List Call). in_turn c.args.order cs (memory l.bytes l.words)) (line _ c.args.text.now l.at c.loop-at-test.true c.if-text-at-eq10.true) ∙ l.invariant.same;
+      same = ap (λ (cs : List Call). in_turn c.args.order.now cs (memory l.bytes l.words)) (line _ c.args.text.now l.at c.loop-at-test.true c.if-text-at-eq10.true) ∙ l.invariant.same;
     }
 
 -- ---- after a task
 
 pub returns-in-Err : goal.returns-in-Err
 unfolding turned
-returns-in-Err c = c.in-Err.ensures.words_after (reverse (take c.loop-at.depth c.loop-at.held)) ∙ c.loop-at.invariant.same
+returns-in-Err g c = c.in-Err.ensures.words_after (reverse (take c.loop-at.depth c.loop-at.held)) ∙ c.loop-at.invariant.same
 
 pub loop-at-preserved-in-Ok : goal.loop-at-preserved-in-Ok
 unfolding turned
-loop-at-preserved-in-Ok c =
+loop-at-preserved-in-Ok g c =
     let l = c.loop-at in
-    let g = c.in-Ok.ensures.further in
+    let f = c.in-Ok.ensures.further in
     record {
       shallow = omega arith;
-      within = g.1;
-      ready = g.2;
+      within = f.1;
+      ready = f.2;
       places = l.invariant.places;
       few = l.invariant.few;
       same = c.in-Ok.ensures.words_after (reverse (take l.depth l.held)) ∙ l.invariant.same;
@@ -69,17 +69,17 @@ loop-at-preserved-in-Ok c =
 
 pub returns-in-Err-object : goal.returns-in-Err-object
 unfolding turned
-returns-in-Err-object c = c.in-Err-object.ensures.words_after ∙ c.loop-at.invariant.same
+returns-in-Err-object g c = c.in-Err-object.ensures.words_after ∙ c.loop-at.invariant.same
 
 pub loop-at-preserved : goal.loop-at-preserved
 unfolding turned
-loop-at-preserved c =
+loop-at-preserved g c =
     let l = c.loop-at in
-    let g = c.in-Ok-object.ensures.further in
+    let f = c.in-Ok-object.ensures.further in
     record {
       shallow = omega arith;
-      within = g.1;
-      ready = g.2;
+      within = f.1;
+      ready = f.2;
       places = length-set l.held l.depth _ ∙ l.invariant.places;
       few = omega arith;
       same = rw (← one_opens l.held l.depth c.in-Ok-object.object.value (omega arith)) c.in-Ok-object.ensures.words_after ∙ l.invariant.same;
@@ -87,13 +87,13 @@ loop-at-preserved c =
 
 -- an object past the eighth level
 pub returns-else-depth-lt-MOST_LEVELS : goal.returns-else-depth-lt-MOST_LEVELS
-returns-else-depth-lt-MOST_LEVELS c =
+returns-else-depth-lt-MOST_LEVELS g c =
     let l = c.loop-at in
-    turn_none c.args.order l.bytes l.words _
+    turn_none c.args.order.now l.bytes l.words _
     (no_level (reverse (take l.depth l.held)) c.args.text.now l.at (c.loop-at-test.true, c.if-text-at-eq41.false, c.if-text-at-eq10.false, sym c.is_at.ensures ∙ c.if-is_at.false) (rw (open_length l.held l.depth (omega arith)) c.if-depth-lt-MOST_LEVELS.false))
     ∙ l.invariant.same
 
 pub returns : goal.returns
-returns c =
+returns g c =
     let l = c.loop-at in
-    turn_none c.args.order l.bytes l.words _ (end _ c.args.text.now l.at c.loop-at-test.false) ∙ l.invariant.same
+    turn_none c.args.order.now l.bytes l.words _ (end _ c.args.text.now l.at c.loop-at-test.false) ∙ l.invariant.same

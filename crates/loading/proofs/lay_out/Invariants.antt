@@ -9,7 +9,7 @@ use Rattle.loading.specs.Calls.{calls_from, calls_in}
 use Rattle.loading.proofs.lay_out.Given as goal
 
 abbrev pub invariant-loop-at : goal.invariant-loop-at
-invariant-loop-at l =
+invariant-loop-at g l =
     record {
       shallow : l.depth ≤ l.at;
       within : l.at ≤ length l.text;
@@ -20,4 +20,4 @@ invariant-loop-at l =
     }
 
 abbrev pub decreases-loop-at : goal.decreases-loop-at
-decreases-loop-at l = length l.text - l.at
+decreases-loop-at g l = length l.text - l.at

@@ -11,6 +11,7 @@ use Rattle.loading.specs.Calls.{task_calls}
 use Rattle.loading.specs.Forms.{turned}
 use Rattle.loading.specs.TurnLaws.{as_call, call_last, turn_stops, turn_goes, turn_ready, turn_none}
 use Rattle.loading.specs.FormLaws.{no_task, task_calls_law, further}
+use Rattle.decisions.specs.DecisionLaws.{passed, failed}
 use Rattle.loading.proofs.task.Goals as goal
 
 -- what runs the task is the task's call
@@ -27,22 +28,22 @@ pub returns-in_default-clause-words_after : goal.returns-in_default-clause-words
 unfolding turned
 returns-in_default-clause-words_after c =
     let a = c.args in
-    λ s. turn_none a.order a.bytes.now a.words.now _ (no_task s a.text.now a.at c.requires.1 _ (sym c.in_default.ensures))
+    λ s. turn_none a.order.now a.bytes.now a.words.now _ (no_task s a.text.now a.at c.requires.1 _ (sym c.in_default.ensures))
 
-pub returns-then-verdict-gt-SLIPPED-clause-words_after : goal.returns-then-verdict-gt-SLIPPED-clause-words_after
+pub returns-then-not-is_done-clause-words_after : goal.returns-then-not-is_done-clause-words_after
 unfolding turned
-returns-then-verdict-gt-SLIPPED-clause-words_after c =
+returns-then-not-is_done-clause-words_after c =
     let a = c.args in
-    λ s. turn_stops a.order _ _ _ _ (task_calls_law s a.text.now a.at c.requires.1 _ (sym c.in-Ok.ensures)) (ran a.order a.bytes.now a.words.now _ c.requires.0 c.execute-verdict.ensures) c.if-verdict-gt-SLIPPED.true
+    λ s. turn_stops a.order.now _ _ _ _ (task_calls_law s a.text.now a.at c.requires.1 _ (sym c.in-Ok.ensures)) (ran a.order.now a.bytes.now a.words.now _ c.requires.0 c.execute-verdict.ensures) (failed c.is_done.ensures c.if-not-is_done.true)
 
 pub returns-clause-further : goal.returns-clause-further
 returns-clause-further c =
     let a = c.args in
-    further a.order a.text.now a.at _ _ _ (task_got a.text.now a.at _ (sym c.in-Ok.ensures))
-    (turn_ready a.order _ _ _ _ (task_calls_law [] a.text.now a.at c.requires.1 _ (sym c.in-Ok.ensures)) (ran a.order a.bytes.now a.words.now _ c.requires.0 c.execute-verdict.ensures) c.requires.0)
+    further a.order.now a.text.now a.at _ _ _ (task_got a.text.now a.at _ (sym c.in-Ok.ensures))
+    (turn_ready a.order.now _ _ _ _ (task_calls_law [] a.text.now a.at c.requires.1 _ (sym c.in-Ok.ensures)) (ran a.order.now a.bytes.now a.words.now _ c.requires.0 c.execute-verdict.ensures) c.requires.0)
 
 pub returns-clause-words_after : goal.returns-clause-words_after
 unfolding turned
 returns-clause-words_after c =
     let a = c.args in
-    λ s. turn_goes a.order _ _ _ _ (task_calls_law s a.text.now a.at c.requires.1 _ (sym c.in-Ok.ensures)) (ran a.order a.bytes.now a.words.now _ c.requires.0 c.execute-verdict.ensures) c.if-verdict-gt-SLIPPED.false
+    λ s. turn_goes a.order.now _ _ _ _ (task_calls_law s a.text.now a.at c.requires.1 _ (sym c.in-Ok.ensures)) (ran a.order.now a.bytes.now a.words.now _ c.requires.0 c.execute-verdict.ensures) (passed c.is_done.ensures c.if-not-is_done.false)
