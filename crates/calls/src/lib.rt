@@ -26,6 +26,7 @@ use events::{delete, move_object};
 use layout::Fault;
 use levels::Order;
 use model::{Answer, Call, NO_WORD};
+use records::{Record, TASK};
 use table::Engine;
 use tallies::Entry;
 
@@ -92,7 +93,13 @@ fn set_up(bytes: &mut [u8], words: &mut [u64], order: Order)
 {
     let top = (order.top % 0x100) as u8;
     records::clear_all(bytes);
-    records::set_record(bytes, 0, records::TASK, top, top, 0, 0, 0);
+    let core = Record {
+        kind: TASK,
+        level: top,
+        read_level: top,
+        ..Record::FREE
+    };
+    records::set_record(bytes, 0, core);
     rows::clear_all(words);
 }
 

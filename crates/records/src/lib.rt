@@ -42,7 +42,7 @@ pub const BYTES: usize = RECORD_SIZE * RECORDS;
 // The records are tested in groups, so that a run of free ones costs few tests.
 const GROUP_SIZE: usize = 8;
 
-const FOUR_GROUPS: usize = 32;
+const FOUR_GROUPS: usize = 4 * GROUP_SIZE;
 
 // An order of fewer levels than this is tested by sums.
 const SUMMED: u16 = 0x80;
@@ -157,10 +157,13 @@ pub fn clear_all(bytes: &mut [u8])
 
 // ---- soundness. A record is read as one number of eight bytes, which the compiler turns into one load.
 
+// The bytes that a caller lends, when their length has been tested.
+type Lent = [u8; BYTES];
+
 // The whole record of x as one number.
 #[tactic(auto, unfolding(crate::specs::WordLaws::word, crate::specs::WordLaws::half, crate::specs::Records::field))]
-fn word(bytes: &[u8], x: usize) -> usize
-    requires { BytesLent bytes.now × (x < numbers) }
+fn word(bytes: &Lent, x: usize) -> usize
+    requires { (x < numbers) }
     ensures { result ≡ word bytes.now x }
 {
     let i = RECORD_SIZE * x;
@@ -177,8 +180,8 @@ fn word(bytes: &[u8], x: usize) -> usize
 }
 
 #[tactic(auto, unfolding(crate::specs::Records::field))]
-fn kind_at(bytes: &[u8], x: usize) -> u8
-    requires { BytesLent bytes.now × (x < numbers) }
+fn kind_at(bytes: &Lent, x: usize) -> u8
+    requires { (x < numbers) }
     ensures { result ≡ kind bytes.now x }
 {
     bytes[RECORD_SIZE * x]
@@ -252,8 +255,8 @@ impl Seen {
         others: 0,
         tripled: 0,
         even: 0,
-        drivers: 1,
-        containers: 2,
+        drivers: TASK,
+        containers: OBJECT,
         unfit: false,
     };
 
@@ -265,8 +268,8 @@ impl Seen {
 
     // With the record w of the object x.
     #[tactic(auto, using(crate::specs::SeenLaws::with_object, crate::specs::WordLaws::in_number))]
-    fn with_object(self, bytes: &[u8], x: usize, w: usize) -> Seen
-        requires { BytesLent bytes.now × (x < numbers) }
+    fn with_object(self, bytes: &Lent, x: usize, w: usize) -> Seen
+        requires { (x < numbers) }
         ensures { Sees (object_fits bytes.now x w) w self result }
     {
         let container = w / 0x1_0000_0000 % 0x100;
@@ -302,12 +305,12 @@ impl Seen {
 
     // With the record of x, which is an object's where its kind is 2.
     #[tactic(auto, unfolding(crate::specs::WordLaws::word_fits))]
-    fn with_record(self, bytes: &[u8], x: usize) -> Seen
-        requires { BytesLent bytes.now × (x < numbers) }
+    fn with_record(self, bytes: &Lent, x: usize) -> Seen
+        requires { (x < numbers) }
         ensures { Sees (word_fits bytes.now x) (word bytes.now x) self result }
     {
         let w = word(bytes, x);
-        if w % 0x100 == 2 {
+        if w % 0x100 == OBJECT as usize {
             self.with_object(bytes, x, w)
         } else {
             self.with_other(w)
@@ -316,8 +319,8 @@ impl Seen {
 
     // With the group from x on. Nothing more is looked at after an unfit object.
     #[tactic(auto, using(crate::specs::GroupLaws::gathered_step, crate::specs::GroupLaws::gathered_unfit))]
-    fn with_group(self, bytes: &[u8], x: usize) -> Seen
-        requires { BytesLent bytes.now × (x + group_size ≤ numbers) × Gathered bytes.now x self }
+    fn with_group(self, bytes: &Lent, x: usize) -> Seen
+        requires { (x + group_size ≤ numbers) × Gathered bytes.now x self }
         ensures { (result.unfit ≡ false → Gathered bytes.now (x + group_size) result) × (result.unfit ≡ true → Gathered bytes.now numbers result) }
     {
         let mut next = self;
@@ -355,15 +358,15 @@ fn levels_low(w: usize, count: usize) -> bool
 
 // Number 0 is a task at the top level.
 #[tactic(auto, unfolding(crate::specs::Records::core_record))]
-fn core_sound(bytes: &[u8], order: Order) -> bool
+fn core_sound(bytes: &Lent, order: Order) -> bool
     ensures { result ≡ core_record order bytes.now }
 {
     is_task(bytes, 0) & (field(bytes, 0, LEVEL) as u16 == order.top)
 }
 
 // The records of the group from x on are free.
-fn group_free(bytes: &[u8], x: usize) -> bool
-    requires { BytesLent bytes.now × (x + group_size ≤ numbers) }
+fn group_free(bytes: &Lent, x: usize) -> bool
+    requires { (x + group_size ≤ numbers) }
     ensures { result ≡ group_free bytes.now x }
 {
     let mut any = 0;
@@ -375,8 +378,8 @@ fn group_free(bytes: &[u8], x: usize) -> bool
 
 // The levels and read levels of all records are below the count, if they are below 0x80: with 0x80 less the count added, none
 // reaches 0x80, which is bit 15 of the number for the level and bit 23 for the read level.
-fn levels_fit(bytes: &[u8], count: usize) -> bool
-    requires { BytesLent bytes.now × (count < 0x80) }
+fn levels_fit(bytes: &Lent, count: usize) -> bool
+    requires { (count < 0x80) }
     ensures { result ≡ levels_fit count bytes.now }
 {
     let rise = (0x80 - count) * 0x1_0100;
@@ -389,8 +392,8 @@ fn levels_fit(bytes: &[u8], count: usize) -> bool
 
 // The four groups from x on are free: one test for 32 records.
 #[tactic(auto, unfolding(crate::specs::GroupLaws::groups_free))]
-fn groups_free(bytes: &[u8], x: usize) -> bool
-    requires { BytesLent bytes.now × (x + 32 ≤ numbers) }
+fn groups_free(bytes: &Lent, x: usize) -> bool
+    requires { (x + 32 ≤ numbers) }
     ensures { result ≡ groups_free bytes.now x }
 {
     group_free(bytes, x)
@@ -400,12 +403,12 @@ fn groups_free(bytes: &[u8], x: usize) -> bool
 }
 
 // A number up to which the records are free, so that few records in use cost few tests.
-fn free_until(bytes: &[u8], from: usize) -> usize
-    requires { BytesLent bytes.now × (from ≤ numbers) × (from % group_size ≡ 0) }
+fn free_until(bytes: &Lent, from: usize) -> usize
+    requires { (from ≤ numbers) × (from % group_size ≡ 0) }
     ensures { FreeUntil bytes.now from result }
 {
     let mut x = from;
-    // By hand: the number that the last step reached is wanted.
+    // By hand: the number that the last step reached is wanted, which a `for` does not leave.
     while x + FOUR_GROUPS <= RECORDS && groups_free(bytes, x) {
         x += FOUR_GROUPS;
     }
@@ -413,13 +416,12 @@ fn free_until(bytes: &[u8], from: usize) -> usize
 }
 
 // What all records show. Where a group begins with a free record, free groups are passed over.
-fn gather(bytes: &[u8]) -> Seen
-    requires { BytesLent bytes.now }
+fn gather(bytes: &Lent) -> Seen
     ensures { Gathered bytes.now numbers result }
 {
     let mut seen = Seen::NONE;
     let mut x = 0;
-    // By hand: free groups are jumped over, up to the number that `free_until` finds.
+    // By hand: free groups are jumped over, up to the number that `free_until` finds; a `for` goes by even steps.
     while x < RECORDS {
         if word(bytes, x) == 0 && group_free(bytes, x) {
             x = free_until(bytes, x + GROUP_SIZE);
@@ -435,8 +437,8 @@ fn gather(bytes: &[u8]) -> Seen
 }
 
 // The records are sound. Levels whose `or` is below the count are so themselves; else each is tested.
-fn records_sound(bytes: &[u8], order: Order) -> bool
-    requires { BytesLent bytes.now × (0 < order.count) × (order.count < 0x80) }
+fn records_sound(bytes: &Lent, order: Order) -> bool
+    requires { (0 < order.count) × (order.count < 0x80) }
     ensures { result ≡ all_sound order bytes.now numbers }
 {
     let seen = gather(bytes);
@@ -450,8 +452,7 @@ fn records_sound(bytes: &[u8], order: Order) -> bool
 
 // An object's container is the root sign or another object.
 #[tactic(auto, unfolding(crate::specs::WordLaws::container_fits, crate::specs::Records::is_object))]
-fn container_sound(bytes: &[u8], x: usize, container: usize) -> bool
-    requires { BytesLent bytes.now }
+fn container_sound(bytes: &Lent, x: usize, container: usize) -> bool
     ensures { result ≡ container_fits bytes.now x container }
 {
     container == ROOT_SIGN as usize
@@ -460,8 +461,8 @@ fn container_sound(bytes: &[u8], x: usize, container: usize) -> bool
 
 // The record of x is sound, field by field. The spare bytes stand above the marks.
 #[tactic(auto, using(crate::specs::WordLaws::plain_record), unfolding(crate::specs::WordLaws::plain_sound))]
-fn plain_record(bytes: &[u8], order: Order, x: usize) -> bool
-    requires { BytesLent bytes.now × (x < numbers) }
+fn plain_record(bytes: &Lent, order: Order, x: usize) -> bool
+    requires { (x < numbers) }
     ensures { result ≡ sound_record order bytes.now x }
 {
     let w = word(bytes, x);
@@ -471,13 +472,13 @@ fn plain_record(bytes: &[u8], order: Order, x: usize) -> bool
     let container = w / 0x1_0000_0000 % 0x100;
     let marks = w / 0x100_0000_0000;
     let count = order.count as usize;
-    let task = (w % 0x100 == 1)
+    let task = (w % 0x100 == TASK as usize)
         & (level < count)
         & (read_level < count)
         & (driver == 0)
         & (container == 0)
         & ((marks == 0) | (marks == 1) | (marks == 3));
-    let object = (w % 0x100 == 2)
+    let object = (w % 0x100 == OBJECT as usize)
         & (level < count)
         & (read_level == 0)
         & is_task(bytes, driver as u16)
@@ -486,18 +487,17 @@ fn plain_record(bytes: &[u8], order: Order, x: usize) -> bool
     (w == 0) | task | object
 }
 
-fn plain_records(bytes: &[u8], order: Order) -> bool
-    requires { BytesLent bytes.now }
+fn plain_records(bytes: &Lent, order: Order) -> bool
     ensures { result ≡ all_sound order bytes.now numbers }
 {
     (0..RECORDS).all(|x| plain_record(bytes, order, x))
 }
 
 #[tactic(auto, unfolding(crate::specs::Records::sound_of))]
-fn sound_under(bytes: &[u8], order: Order) -> bool
+fn sound_under(bytes: &Lent, order: Order) -> bool
     ensures { result ≡ model.sound order bytes.now }
 {
-    if bytes.len() != BYTES || !core_sound(bytes, order) {
+    if !core_sound(bytes, order) {
         return false;
     }
     if 0 < order.count && order.count < SUMMED {
@@ -508,10 +508,13 @@ fn sound_under(bytes: &[u8], order: Order) -> bool
 }
 
 // The bytes are sound under an order of so many levels and that top. Its rows play no part, so it is not copied for the test.
-#[tactic(auto, unfolding(crate::specs::Records::sound_of, crate::specs::Records::core_record, crate::specs::Records::sound_record_of, crate::specs::Records::task_record, crate::specs::Records::object_record_of))]
+#[tactic(auto, unfolding(crate::specs::Records::sound_of))]
 pub fn sound(bytes: &[u8], count: u16, top: u16) -> bool
     ensures { (rows : List ℕ) → result ≡ model.sound (record { rows = rows; count = count; top = top }) bytes.now }
 {
+    let Some(bytes) = bytes.as_array() else {
+        return false;
+    };
     let order = Order {
         rows: [0u16; 16],
         count,

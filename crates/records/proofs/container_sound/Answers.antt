@@ -1,4 +1,4 @@
-use Rattle.std.proofs.Common.{sym, ◌∙◌, ne_eqb}
+use Rattle.std.proofs.Common.{sym, ◌∙◌, ne_eqb, rules}
 use Rattle.rows.specs.Size.{present}
 use Rattle.records.specs.Records.{is_object}
 use Rattle.records.specs.RecordLaws.{field_past}
@@ -14,5 +14,5 @@ returns-else-kind_at-eq-OBJECT c =
     f
     ∙ elim c.if-container-lt-RECORDS.branch [
       | then-container-lt-RECORDS w ↦ simp (no_root, sym w.kind_at.ensures, sym w.value-is ∙ f)
-      | else-container-lt-RECORDS w ↦ simp (no_root, field_past present c.args.bytes.now _ 0 c.requires w.if-container-lt-RECORDS.false)
+      | else-container-lt-RECORDS w ↦ simp (no_root, field_past present c.args.bytes.now _ 0 (search rules) w.if-container-lt-RECORDS.false)
     ]

@@ -1,4 +1,5 @@
-use Rattle.std.proofs.Common.{◌≡◌, true, sym, ◌∙◌}
+use Rattle.std.proofs.Common.{◌≡◌, true, sym, ◌∙◌, rules}
+use Rattle.records.specs.Records.{BytesLent}
 use Rattle.records.specs.SeenLaws.{seen_low}
 use Rattle.records.specs.GroupLaws.{records_are, lows_fit}
 use Rattle.records.proofs.records_sound.Goals as goal
@@ -6,23 +7,23 @@ use Rattle.records.proofs.records_sound.Goals as goal
 pub returns-then-levels_low : goal.returns-then-levels_low
 returns-then-levels_low c =
     let a = c.args in
-    let p = c.requires in
+    let long : BytesLent a.bytes.now = search rules in
     let f = sym c.fits.ensures ∙ c.if-fits.true in
     let h : seen_low a.order.count c.gather-seen.result ≡ true = rw (c.levels_low.ensures, c.levels_low-then-fits.ensures) at c.if-levels_low.true in
-    c.if-levels_low.true ∙ rw (f, lows_fit a.order a.bytes.now p.0 c.type_inv.bytes p.1 p.2 _ c.gather-seen.ensures f h) at
-    (records_are a.order a.bytes.now p.0 c.type_inv.bytes p.1 p.2 _ c.gather-seen.ensures)
+    c.if-levels_low.true ∙ rw (f, lows_fit a.order a.bytes.now long (λ i. search rules) c.requires.0 c.requires.1 _ c.gather-seen.ensures f h) at
+    (records_are a.order a.bytes.now long (λ i. search rules) c.requires.0 c.requires.1 _ c.gather-seen.ensures)
 
 pub returns-else-levels_low : goal.returns-else-levels_low
 returns-else-levels_low c =
     let a = c.args in
-    let p = c.requires in
+    let long : BytesLent a.bytes.now = search rules in
     c.levels_fit.ensures
     ∙ rw (sym c.fits.ensures ∙ c.if-fits.true) at
-    (records_are a.order a.bytes.now p.0 c.type_inv.bytes p.1 p.2 _ c.gather-seen.ensures)
+    (records_are a.order a.bytes.now long (λ i. search rules) c.requires.0 c.requires.1 _ c.gather-seen.ensures)
 
 pub returns-else-fits : goal.returns-else-fits
 returns-else-fits c =
     let a = c.args in
-    let p = c.requires in
+    let long : BytesLent a.bytes.now = search rules in
     c.if-fits.false ∙ rw (sym c.fits.ensures ∙ c.if-fits.false) at
-    (records_are a.order a.bytes.now p.0 c.type_inv.bytes p.1 p.2 _ c.gather-seen.ensures)
+    (records_are a.order a.bytes.now long (λ i. search rules) c.requires.0 c.requires.1 _ c.gather-seen.ensures)
