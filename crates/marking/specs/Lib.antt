@@ -1,6 +1,6 @@
 pub mod ReportLaws
+pub mod Lowest
 pub mod FirstLaws
-pub mod Plain
 pub mod MarksLaws
 pub mod EffectLaws
 pub mod Rounds

@@ -1,21 +1,19 @@
 -- A memory with just these numbers marked besides: what it is known by, and that this settles it.
 -- Assumes nothing.
-use Rattle.std.specs.Prelude.{◌≡◌, refl, ◌⊎◌, Bool, true, false, ◌&&◌, ◌||◌, List, ℕ, ◌+◌, ◌*◌, ◌/◌, ◌%◌, ◌≤◌, ◌<◌, eqb, leb, length}
-use Rattle.std.proofs.Math.Path.{sym, ap}
-use Rattle.std.proofs.Common.{◌∙◌, inl, inr, arith, ext_get_or}
-use Rattle.std.proofs.Math.Logic.{⊎_elim}
-use Rattle.std.proofs.Math.Bool.{true≢false, or_assoc}
-use Rattle.std.proofs.Math.ListN.{get_or, set}
-use Rattle.std.proofs.Math.Seq.{set-get_or}
-use borrow.Author.Tests.{eqb-true, eqb-false, eq-eqb, ne_eqb, not-false, leb-true, le-leb, lt-leb}
-use Rattle.bits.specs.All.{one}
-use Rattle.bits.specs.AllLaws.{either, both_ways, and-true, and-false, or_false}
+use Rattle.std.specs.Prelude.{◌≡◌, refl, ◌⊎◌, Bool, true, false, cond, ◌||◌, Some, ℕ, zero, suc, ◌+◌, ◌*◌, ◌/◌, ◌%◌, ◌≤◌, ◌<◌, eqb, get_or, length}
+use Rattle.std.proofs.Common.{sym, ap, ◌∙◌, inl, inr, ⊎_elim, true≢false, add-one, arith, ext_get_or, eqb-true, eq-eqb, ne_eqb, eq-or-lt_of_le}
+use Rattle.std.proofs.Math.Nat.{le_of_suc-le-suc}
+use Rattle.std.proofs.lemmas.Bool.{eqb-false}
+use borrow.Author.Tests.{not-false}
+use Rattle.bits.specs.All.{one, up_to}
+use Rattle.bits.specs.AllLaws.{either}
+use Rattle.bits.specs.LoopLaws.{up_keeps}
 use Rattle.rows.specs.Size.{numbers}
-use Rattle.records.specs.Records.{BytesLent, field, set_field}
-use Rattle.records.specs.RecordLaws.{field_same, field_else, length_field}
-use Rattle.model.specs.State.{Memory, memory, marked}
-use Rattle.model.specs.Effects.{mark_where, object_of}
-use Rattle.model.proofs.MarkLaws.{MoreMarks, kept_object, kept_driver, more_then, more_none, where_more, where_length, where_new, where_not}
+use Rattle.records.specs.Records.{field}
+use Rattle.sets.specs.Numbers.{Takes}
+use Rattle.model.specs.State.{Memory, marked}
+use Rattle.model.specs.Effects.{mark_one, mark_where, object_of}
+use Rattle.model.proofs.MarkLaws.{MoreMarks, kept_object, kept_driver, more_then, more_none, where_more, where_rest, where_length, where_new, where_not}
 use Rattle.model.proofs.SpreadLaws.{Sized}
 
 -- n is m with a mark for each unmarked number that passes
@@ -81,105 +79,64 @@ marks_where p m h = record { more = where_more p m; new = λ x l e. go x l e (ei
     go x l e (inl b) = where_new p m x l h e b ∙ sym (rw b)
     go x l e (inr b) = where_not p m x b ∙ no_mark m x e ∙ sym (rw b)
 
--- a store of a mark
-module _ (bs ws : List ℕ) (x : ℕ) where
-  pub marks_store : BytesLent bs → x < numbers → get_or bs (8 * x + 5) 0 ≡ 0 → Marks (memory bs ws) (λ y. eqb y x) (memory (set bs (8 * x + 5) 1) ws)
-  unfolding set_field field marked
-  marks_store h l e =
-      record {
-        more =
-            record {
-              words_kept = refl;
-              length_kept = length_field bs x 5 1;
-              bytes_kept = λ y f b n. field_else bs x 5 1 y f (omega arith) b (inr n);
-              marks_kept = λ y d. else y (λ q. true≢false (sym d ∙ ap (marked (memory bs ws)) q ∙ rw e));
-            };
-        new = λ y b d. ⊎_elim (λ q. rw (eqb-true y x q, eq-eqb x x refl) (field_same bs x 5 1 (omega arith))) (λ q. rw q (else y (eqb-false y x q) ∙ no_mark (memory bs ws) y d)) (either (eqb y x));
-      }
-    where
-      else : (y : ℕ) → (y ≡ x → ⊥) → field (set_field bs x 5 1) y 5 ≡ field bs y 5
-      else y n = field_else bs x 5 1 y 5 (omega arith) (omega arith) (inl n)
+-- ---- equal tests mark the same, and of two tests the one after the other marks what either does
 
-  -- a store that is left out, since the mark is there
-  pub marks_there : (get_or bs (8 * x + 5) 0 ≡ 0 → ⊥) → Marks (memory bs ws) (λ y. eqb y x) (memory bs ws)
-  unfolding field
-  marks_there e =
-      record {
-        more = more_none _;
-        new = λ y l d. let z : get_or bs (8 * y + 5) 0 ≡ 0 = no_mark (memory bs ws) y d in z ∙ sym (rw (ne_eqb y x (λ q. e (ap (λ (k : ℕ). get_or bs (8 * k + 5) 0) (sym q) ∙ z))));
-      }
-
-  -- a store over marks of 0 or 1
-  pub marks_over : BytesLent bs → x < numbers → (field bs x 5 ≡ 0) ⊎ (field bs x 5 ≡ 1) → Marks (memory bs ws) (λ y. eqb y x) (memory (set bs (8 * x + 5) 1) ws)
-  unfolding field
-  marks_over h l (inl e) = marks_store h l e
-  marks_over h l (inr e) =
-      let s : set bs (8 * x + 5) 1 ≡ bs = ap (set bs (8 * x + 5)) (sym e) ∙ set-get_or bs (8 * x + 5) 0 in
-      rw s (marks_there (λ z. omega arith))
-
--- ---- a loop that marks: n is m with the marks of some of all, and the rest is left
-
-pub record Left (m n : Memory) (all rest : ℕ → Bool) : Type 0 where
-  pub done : ℕ → Bool
-  pub marks : Marks m done n
-  pub parts : (x : ℕ) → x < numbers → (done x || rest x) ≡ all x
-
-pub left_all : (m : Memory) (all : ℕ → Bool) → Left m m all all
-left_all m all = record { done = λ x. false; marks = marks_none m; parts = λ x l. refl }
-
-pub left_from : {m n : Memory} {all rest rest' : ℕ → Bool} → Left m n all rest → ((x : ℕ) → x < numbers → rest' x ≡ rest x) → Left m n all rest'
-left_from g e = record { done = g.done; marks = g.marks; parts = λ x l. ap (λ (b : Bool). g.done x || b) (e x l) ∙ g.parts x l }
-
-pub left_less : {m n v : Memory} {all rest rest' q : ℕ → Bool} → Left m n all rest → Marks n q v → ((x : ℕ) → x < numbers → rest x ≡ (q x || rest' x)) → Left m v all rest'
-left_less {rest' = rest'} {q = q} g f e =
-    record {
-      done = λ x. g.done x || q x;
-      marks = marks_then g.marks f;
-      parts = λ x l. or_assoc (g.done x) (q x) (rest' x) ∙ ap (λ (b : Bool). g.done x || b) (sym (e x l)) ∙ g.parts x l;
-    }
-
-pub left_none : {m n : Memory} {all rest : ℕ → Bool} → Sized m → Left m n all rest → ((x : ℕ) → x < numbers → rest x ≡ false) → n ≡ mark_where all m
-left_none {m} {all = all} h g e =
-    marks_same h g.marks (marks_where all m h) (λ x l d. sym (or_false (g.done x)) ∙ ap (λ (b : Bool). g.done x || b) (sym (e x l)) ∙ g.parts x l)
-
--- marks of 0 or 1 stay so
-pub left_plain : {m n : Memory} {all rest : ℕ → Bool} → Left m n all rest → (x : ℕ) → x < numbers → (field m.bytes x 5 ≡ 0) ⊎ (field m.bytes x 5 ≡ 1) → (field n.bytes x 5 ≡ 0) ⊎ (field n.bytes x 5 ≡ 1)
-unfolding marked
-left_plain {m} {n} g x l (inr e) = inr (g.marks.more.marks_kept x (rw e) ∙ e)
-left_plain {m} {n} g x l (inl e) = go (g.done x) (g.marks.new x l (rw e))
-  where
-    go : (b : Bool) → field n.bytes x 5 ≡ one b → (field n.bytes x 5 ≡ 0) ⊎ (field n.bytes x 5 ≡ 1)
-    go true f = inr f
-    go false f = inl f
-
--- a loop over the numbers: those from x on that pass are x, if it does, and those after it
-pub from_here : (p : ℕ → Bool) (x y : ℕ) → (leb x y && p y) ≡ ((p x && eqb y x) || (leb (x + 1) y && p y))
-from_here p x y = ⊎_elim here past (either (eqb y x))
-  where
-    here : eqb y x ≡ true → (leb x y && p y) ≡ ((p x && eqb y x) || (leb (x + 1) y && p y))
-    here e =
-        let d : y ≡ x = eqb-true y x e in
-        let a : leb x x ≡ true = le-leb x x (omega arith) in
-        let b : leb (x + 1) x ≡ false = lt-leb (x + 1) x (omega arith) in
-        rw (d, a, b, eq-eqb x x refl) (sym (or_false _ ∙ and-true (p x)))
-
-    past : eqb y x ≡ false → (leb x y && p y) ≡ ((p x && eqb y x) || (leb (x + 1) y && p y))
-    past e =
-        let n : y ≡ x → ⊥ = eqb-false y x e in
-        rw (e, and-false (p x))
-        (ap (λ (b : Bool). b && p y)
-        (both_ways (leb x y) (leb (x + 1) y)
-        (λ l. let h : x ≤ y = leb-true x y l in le-leb (x + 1) y (omega arith))
-        (λ l. let h : x + 1 ≤ y = leb-true (x + 1) y l in le-leb x y (omega arith))))
-
--- ---- one after the other
+pub where_ext : (p q : ℕ → Bool) (m : Memory) → Sized m → ((x : ℕ) → x < numbers → p x ≡ q x) → mark_where p m ≡ mark_where q m
+where_ext p q m h e = marks_same h (marks_where p m h) (marks_where q m h) (λ x l d. e x l)
 
 pub where_then : (m : Memory) (p q r : ℕ → Bool) → Sized m → ((x : ℕ) → x < numbers → r x ≡ (p x || q x)) → mark_where q (mark_where p m) ≡ mark_where r m
 where_then m p q r h e =
     marks_same h (marks_then (marks_where p m h) (marks_where q _ (where_length p m ∙ h))) (marks_where r m h) (λ x l d. sym (e x l))
+
+-- ---- the mark of one number
+
+-- a loop of which one turn does something is that turn
+up_once : {A : Type 0} (f : ℕ → A → A) (x : ℕ) → ((k : ℕ) (s : A) → (k ≡ x → ⊥) → f k s ≡ s) → (n : ℕ) → x < n → (s : A) → up_to f n s ≡ f x s
+unfolding up_to
+up_once f x h zero l s = absurd (omega arith)
+up_once f x h (suc n) l s =
+    ⊎_elim
+    (λ (e : x ≡ n). rw (up_keeps f (λ v. v ≡ s) n (λ k v b q. h k v (omega arith) ∙ q) s refl, e) refl)
+    (λ (b : x < n). h n _ (omega arith) ∙ up_once f x h n b s)
+    (eq-or-lt_of_le (le_of_suc-le-suc l))
+
+pub one_where : (x : ℕ) (m : Memory) → x < numbers → mark_one x m ≡ mark_where (λ y. eqb y x) m
+unfolding mark_where
+one_where x m l =
+    let step : ℕ → Memory → Memory = λ y v. cond (eqb y x) (mark_one y v) v in
+    sym (up_once step x (λ k v n. rw (ne_eqb k x n)) numbers l m ∙ rw (eq-eqb x x refl))
 
 -- ---- what reads no marks
 
 pub kept_object_of : {m n : Memory} → MoreMarks m n → (d x : ℕ) → object_of n d x ≡ object_of m d x
 unfolding object_of
 kept_object_of g d x = rw (kept_object g x, kept_driver g x)
+
+-- ---- loops that mark
+
+-- the number that a walk through a set has come to, and then those that are left
+pub walk_next : (m : Memory) (p q : ℕ → Bool) (x : ℕ) {n : Memory} → Sized m → Takes p (Some x) q → n ≡ mark_one x m → mark_where q n ≡ mark_where p m
+walk_next m p q x h k is =
+    ap (mark_where q) (is ∙ one_where x m (omega (arith, k.0))) ∙ where_then m (λ y. eqb y x) q p h (λ y l. k.1 y)
+
+pub walk_end : (m : Memory) (p : ℕ → Bool) → ((y : ℕ) → p y ≡ false) → mark_where p m ≡ m
+walk_end m p e = where_rest p m (λ x l q. absurd (true≢false (sym q ∙ e x)))
+
+-- with those below k marked that pass
+abbrev pub marked_below : ℕ → (ℕ → Bool) → Memory → Memory
+marked_below k p m = up_to (λ x v. cond (p x) (mark_one x v) v) k m
+
+below_more : (p : ℕ → Bool) (m : Memory) (k : ℕ) → k ≤ numbers → MoreMarks m (marked_below k p m)
+below_more p m k l = up_keeps _ (MoreMarks m) k (λ x v b g. go x v g (omega arith) (p x)) m (more_none m)
+  where
+    go : (x : ℕ) (v : Memory) → MoreMarks m v → x < numbers → (b : Bool) → MoreMarks m (cond b (mark_one x v) v)
+    go x v g b true = more_then g (rw (one_where x v b) (where_more _ v))
+    go x v g b false = g
+
+-- whether x is an object of d is asked when those below it are marked
+pub objects_next : (m : Memory) (d x : ℕ) {v : Memory} {asked : Bool} → x < numbers → v ≡ marked_below x (object_of m d) m → asked ≡ object_of v d x
+    → cond asked (mark_one x v) v ≡ marked_below (x + 1) (object_of m d) m
+unfolding up_to
+objects_next m d x {v} {asked} l is a =
+    let o : asked ≡ object_of m d x = a ∙ ap (λ (u : Memory). object_of u d x) is ∙ kept_object_of (below_more (object_of m d) m x (omega arith)) d x in
+    rw (o, is, add-one)

@@ -4,28 +4,41 @@
 mod marks;
 mod rounds;
 
-ghost use Rattle.std.specs.Prelude.{◌≡◌, List, ℕ, ◌-◌, ◌<◌};
+ghost use Rattle.std.specs.Prelude.{◌≡◌, List, ℕ, ◌<◌};
 ghost use Rattle.bits.specs.Bit.{bit};
-ghost use Rattle.rows.specs.Size.{present};
+ghost use Rattle.rows.specs.Size.{present, numbers};
 ghost use Rattle.levels.specs.declared.Order.{Order};
-ghost use Rattle.records.specs.Records.{BytesLent};
+ghost use Rattle.records.specs.Records.{record_size, BytesLent, field, driver};
 ghost use Rattle.model.specs.Ready.{Ready};
 ghost use Rattle.model.specs.State.{memory};
 ghost use Rattle.model.specs.Events as model·events;
 ghost use Rattle.model.specs.Events.{left, outcome, verdict_of};
 ghost use Rattle.model.specs.Spread as model·spread;
 ghost use Rattle.model.specs.Monitor as model·monitor;
-ghost use Rattle.model.specs.Monitor.{no_report, first_from, next_marked, marked_report};
+ghost use Rattle.marking.specs.Lowest.{Lowest};
+ghost use Rattle.model.specs.Monitor.{no_report, next_marked, marked_report};
 
 use levels::Order;
 use model::Report;
+use records::{DRIVER, FREE, KIND, MARKS, RECORD_SIZE};
+use rounds::Spread;
+use rows::NUMBERS;
 
-// Where the kind, the driver and the marks stand in a record.
-const KIND: usize = records::KIND as usize;
+// Byte f of the record of x. The bytes are lent, so their length needs no test.
+fn byte(bytes: &[u8], x: u16, f: u16) -> u8
+    requires { BytesLent bytes.now × (x < numbers) × (f < record_size) }
+    ensures { result ≡ field bytes.now x f }
+{
+    bytes[RECORD_SIZE * (x as usize) + (f as usize)]
+}
 
-const DRIVER: usize = records::DRIVER as usize;
-
-const MARKS: usize = records::MARKS as usize;
+// The driver that the record of x names.
+fn driver_of(bytes: &[u8], x: u16) -> u8
+    requires { BytesLent bytes.now × (x < numbers) }
+    ensures { result ≡ driver bytes.now x }
+{
+    byte(bytes, x, DRIVER)
+}
 
 // A report of nothing, with why.
 fn no_report(verdict: u8) -> Report
@@ -34,7 +47,7 @@ fn no_report(verdict: u8) -> Report
     Report {
         words: [0, 0],
         ones: 0,
-        verdict: verdict,
+        verdict,
     }
 }
 
@@ -43,7 +56,7 @@ fn marked_report(bytes: &[u8]) -> Report
     requires { BytesLent bytes.now }
     ensures { (ws : List ℕ) → result ≡ marked_report (memory bytes.now ws) }
 {
-    let marked = sets::with_field(bytes, MARKS);
+    let marked = sets::with_field(bytes, MARKS as usize);
     Report {
         words: [marked.low, marked.high],
         ones: bits::count_of_ones(marked.low) + bits::count_of_ones(marked.high),
@@ -55,10 +68,7 @@ fn marked_report(bytes: &[u8]) -> Report
 pub fn report(bytes: &[u8], words: &[u64], order: Order) -> Report
     ensures { result ≡ model·monitor.report order (memory bytes.now words.now) }
 {
-    if words.len() != rows::WORDS {
-        return no_report(model::STATE);
-    }
-    if !records::sound(bytes, order.count, order.top) {
+    if words.len() != rows::WORDS || !records::sound(bytes, order.count, order.top) {
         return no_report(model::STATE);
     }
     if !levels::order_passes(order) {
@@ -67,36 +77,30 @@ pub fn report(bytes: &[u8], words: &[u64], order: Order) -> Report
     marked_report(bytes)
 }
 
-// The place of the lowest one of a word at or above i, and 64 where there is none.
-fn lowest_from(w: u64, i: u16) -> u16
-    requires { i < 64 }
-    ensures { result ≡ first_from (64 - i) (λ j. bit w j) i }
+// The lowest place at or above i where a word has a one.
+fn lowest_from(w: u64, i: u16) -> Option<u16>
+    ensures { Lowest (λ j. bit w j) i 64 result }
 {
-    let above = w >> i;
+    let above = w.checked_shr(i as u32)?;
     if above == 0 {
-        64
+        None
     } else {
-        i + (bits::lowest_one(above) as u16)
+        Some(i + (bits::lowest_one(above) as u16))
     }
 }
 
-// The lowest marked number of a report at or above `from`, and rows::NUMBERS where there is none.
+// The lowest marked number of a report at or above `from`, and NUMBERS where there is none.
 pub fn next_marked(report: Report, from: u16) -> u16
     ensures { result ≡ next_marked report from }
 {
-    let words = report.words;
-    if from < 64 {
-        let low = lowest_from(words[0], from);
-        if low < 64 {
-            low
-        } else {
-            64 + lowest_from(words[1], 0)
-        }
-    } else if from < rows::NUMBERS {
-        64 + lowest_from(words[1], from - 64)
-    } else {
-        rows::NUMBERS
+    let [low, high] = report.words;
+    if let Some(i) = lowest_from(low, from) {
+        return i;
     }
+    if let Some(i) = lowest_from(high, from.saturating_sub(64)) {
+        return 64 + i;
+    }
+    NUMBERS
 }
 
 // A task is marked from outside, and its objects are marked.
@@ -116,10 +120,10 @@ fn step_verdict(bytes: &[u8], words: &[u64], x: u16) -> u8
     requires { BytesLent bytes.now }
     ensures { (order : Order) → result ≡ verdict_of (model·events.step order (memory bytes.now words.now) x) }
 {
-    if records::field(bytes, x, records::KIND) == records::FREE {
+    if records::field(bytes, x, KIND) == FREE {
         return model::NUMBER;
     }
-    if records::field(bytes, x, records::MARKS) != 0 {
+    if records::field(bytes, x, MARKS) != 0 {
         return model::STILL;
     }
     if marks::is_fed(bytes, words, x) {
@@ -146,12 +150,11 @@ pub fn spread(bytes: &mut [u8], words: &[u64], order: Order) -> u8
     requires { Ready order bytes.old words.now }
     ensures { left 0 result bytes.new words.now ≡ model·spread.spread (memory bytes.old words.now) }
 {
-    let sources = sets::with_field(bytes, MARKS);
+    let sources = sets::with_field(bytes, MARKS as usize);
     if sets::is_empty(sources) {
         return 0;
     }
-    let done = rounds::spread_sets(bytes, words, sources);
-    let set = done.marked;
-    marks::mark_set(bytes, set);
-    done.rounds
+    let Spread { marked, rounds } = rounds::spread_sets(bytes, words, sources);
+    marks::mark_set(bytes, marked);
+    rounds
 }

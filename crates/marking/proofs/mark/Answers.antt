@@ -1,10 +1,8 @@
-use Rattle.std.proofs.Common.{◌≡◌, true, false, refl, sym, ◌∙◌, eqb-true}
-use Rattle.records.specs.Records.{is_task}
+use Rattle.std.proofs.Common.{◌≡◌, true, false, refl, sym, ◌∙◌}
 use Rattle.model.specs.State.{memory, task}
-use Rattle.model.proofs.StateLaws.{task_used, used_below}
 use Rattle.model.specs.Effects.{effects}
 use Rattle.model.specs.Events.{verdict_of, first_failing, unless, mark}
-use Rattle.marking.specs.EffectLaws.{sound_plain, made, refused}
+use Rattle.marking.specs.EffectLaws.{made, refused}
 use Rattle.marking.proofs.mark.Goals as goal
 
 pub returns-then-not-is_task : goal.returns-then-not-is_task
@@ -14,14 +12,6 @@ returns-then-not-is_task c =
     let m = memory a.bytes.now a.words.now in
     let t : task m a.task ≡ false = sym c.is_task.ensures ∙ c.if-not-is_task.true in
     refused m (mark a.order m a.task) (sym (rw t)) refl
-
-pub mark_outside-requires : goal.mark_outside-requires
-unfolding task is_task
-mark_outside-requires c =
-    let a = c.args in
-    let m = memory a.bytes.now a.words.now in
-    let t : task m a.task ≡ true = sym c.is_task.ensures ∙ c.if-not-is_task.false in
-    (c.requires.0, used_below m a.task c.requires.0 (task_used m a.task t), eqb-true _ 1 t, sound_plain a.order a.bytes.now c.requires.3)
 
 pub returns : goal.returns
 unfolding verdict_of first_failing unless mark task effects

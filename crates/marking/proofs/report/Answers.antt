@@ -4,16 +4,17 @@ use Rattle.records.specs.RecordLaws.{long}
 use Rattle.model.specs.State.{memory}
 use Rattle.marking.specs.ReportLaws.{report_length, report_unsound, report_order, report_whole}
 use Rattle.marking.proofs.report.Goals as goal
+use Rattle.marking.proofs.report.Goals.{then-words-ne-WORDS-via-then-words-ne-WORDS, then-words-ne-WORDS-via-else-words-ne-WORDS+then-not-sound}
 
 pub returns-then-words-ne-WORDS : goal.returns-then-words-ne-WORDS
 returns-then-words-ne-WORDS c =
     let a = c.args in
-    c.no_report.ensures ∙ report_length a.order (memory a.bytes.now a.words.now) c.if-words-ne-WORDS.true
-
-pub returns-then-not-sound : goal.returns-then-not-sound
-returns-then-not-sound c =
-    let a = c.args in
-    c.no_report-then-not-sound.ensures ∙ report_unsound a.order (memory a.bytes.now a.words.now) (sym (c.sound.ensures _) ∙ c.if-not-sound.true)
+    let m = memory a.bytes.now a.words.now in
+    c.no_report.ensures
+    ∙ elim c.then-words-ne-WORDS.branch [
+      | then-words-ne-WORDS-via-then-words-ne-WORDS w ↦ report_length a.order m w.if-words-ne-WORDS.true
+      | then-words-ne-WORDS-via-else-words-ne-WORDS+then-not-sound w ↦ report_unsound a.order m (sym (w.sound.ensures a.order.rows) ∙ w.if-not-sound.true)
+    ]
 
 pub returns-then-not-order_passes : goal.returns-then-not-order_passes
 returns-then-not-order_passes c =

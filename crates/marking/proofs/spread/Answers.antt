@@ -9,10 +9,10 @@ pub returns-then-is_empty : goal.returns-then-is_empty
 unfolding marked
 returns-then-is_empty c = spread_none _ c.requires.0 c.with_field-sources.ensures (not-true _ (sym c.is_empty.ensures ∙ c.if-is_empty.true))
 
-pub spread_sets-done-requires : goal.spread_sets-done-requires
+pub spread_sets-rounds-requires : goal.spread_sets-rounds-requires
 unfolding marked
-spread_sets-done-requires c =
+spread_sets-rounds-requires c =
     (c.requires.0, c.requires.1, sound_driven c.args.order c.args.bytes.now c.requires.3, c.with_field-sources.ensures, not-false _ (sym c.is_empty.ensures ∙ c.if-is_empty.false))
 
 pub returns : goal.returns
-returns c = spread_is _ c.requires.0 c.spread_sets-done.ensures (c.mark_set.ensures _)
+returns c = spread_is _ c.requires.0 c.spread_sets-rounds.ensures (c.mark_set.ensures _)

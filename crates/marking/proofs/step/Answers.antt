@@ -1,21 +1,19 @@
-use Rattle.std.proofs.Common.{refl, sym, ◌∙◌, eqb-true}
-use Rattle.std.proofs.Math.Bool.{and-eq-true_iff}
-use borrow.Author.Tests.{not-true, not-false}
-use Rattle.model.specs.State.{memory, marked}
+use Rattle.std.proofs.Common.{refl, sym, ◌∙◌}
+use Rattle.model.specs.State.{memory}
 use Rattle.model.proofs.StateLaws.{used_below}
 use Rattle.model.specs.Effects.{effects}
 use Rattle.model.specs.Events.{step}
 use Rattle.model.proofs.TableLaws.{done_tests}
-use Rattle.marking.specs.EffectLaws.{sound_plain, made, refused, step_refused}
+use Rattle.marking.specs.EffectLaws.{made, refused, step_refused}
 use Rattle.marking.proofs.step.Goals as goal
 
 pub mark_thing-requires : goal.mark_thing-requires
-unfolding step marked
+unfolding step
 mark_thing-requires c =
     let a = c.args in
     let m = memory a.bytes.now a.words.now in
     let t = done_tests (step a.order m a.x) refl (rw (sym (c.step_verdict-verdict.ensures a.order) ∙ c.if-verdict-eq-GRANTED.true)) in
-    (c.requires.0, used_below m a.x c.requires.0 t.0, eqb-true _ 0 (not-false _ (not-true _ (simp and-eq-true_iff at t.1.0).0)), sound_plain a.order a.bytes.now c.requires.3)
+    (c.requires.0, used_below m a.x c.requires.0 t.0)
 
 pub returns-then-verdict-eq-GRANTED : goal.returns-then-verdict-eq-GRANTED
 unfolding step effects
