@@ -10,6 +10,7 @@ ghost use Rattle.rows.specs.Size.{present, numbers};
 ghost use Rattle.levels.specs.declared.Order.{Order};
 ghost use Rattle.records.specs.Records.{record_size, BytesLent, field, driver};
 ghost use Rattle.model.specs.Ready.{Ready};
+ghost use Rattle.model.specs.Verdicts.{number_of};
 ghost use Rattle.model.specs.State.{memory};
 ghost use Rattle.model.specs.Events as model·events;
 ghost use Rattle.model.specs.Events.{left, outcome, verdict_of};
@@ -19,7 +20,7 @@ ghost use Rattle.marking.specs.Lowest.{Lowest};
 ghost use Rattle.model.specs.Monitor.{no_report, next_marked, marked_report};
 
 use levels::Order;
-use model::Report;
+use model::{Report, Verdict};
 use records::{DRIVER, FREE, KIND, MARKS, RECORD_SIZE};
 use rounds::Spread;
 use rows::NUMBERS;
@@ -41,13 +42,13 @@ fn driver_of(bytes: &[u8], x: u16) -> u8
 }
 
 // A report of nothing, with why.
-fn no_report(verdict: u8) -> Report
-    ensures { result ≡ no_report present verdict }
+fn no_report(verdict: Verdict) -> Report
+    ensures { result ≡ no_report present (number_of verdict) }
 {
     Report {
         words: [0, 0],
         ones: 0,
-        verdict,
+        verdict: verdict.number(),
     }
 }
 
@@ -60,19 +61,19 @@ fn marked_report(bytes: &[u8]) -> Report
     Report {
         words: [marked.low, marked.high],
         ones: bits::count_of_ones(marked.low) + bits::count_of_ones(marked.high),
-        verdict: model::GRANTED,
+        verdict: Verdict::Granted.number(),
     }
 }
 
 // What is marked; all zero where the lengths, the bytes or the order are refused.
-pub fn report(bytes: &[u8], words: &[u64], order: Order) -> Report
-    ensures { result ≡ model·monitor.report order (memory bytes.now words.now) }
+pub fn report(bytes: &[u8], words: &[u64], order: &Order) -> Report
+    ensures { result ≡ model·monitor.report order.now (memory bytes.now words.now) }
 {
     if words.len() != rows::WORDS || !records::sound(bytes, order.count, order.top) {
-        return no_report(model::STATE);
+        return no_report(Verdict::State);
     }
-    if !levels::order_passes(order) {
-        return no_report(model::ORDER);
+    if !levels::order_passes(*order) {
+        return no_report(Verdict::Order);
     }
     marked_report(bytes)
 }
@@ -104,50 +105,50 @@ pub fn next_marked(report: Report, from: u16) -> u16
 }
 
 // A task is marked from outside, and its objects are marked.
-pub fn mark(bytes: &mut [u8], words: &[u64], order: Order, task: u16) -> u8
-    requires { Ready order bytes.old words.now }
-    ensures { left result 0 bytes.new words.now ≡ outcome (memory bytes.old words.now) (model·events.mark order (memory bytes.old words.now) task) }
+pub fn mark(bytes: &mut [u8], words: &[u64], order: &Order, task: u16) -> Verdict
+    requires { Ready order.now bytes.old words.now }
+    ensures { left (number_of result) 0 bytes.new words.now ≡ outcome (memory bytes.old words.now) (model·events.mark order.now (memory bytes.old words.now) task) }
 {
     if !records::is_task(bytes, task) {
-        return model::NUMBER;
+        return Verdict::Number;
     }
     marks::mark_outside(bytes, task);
-    model::GRANTED
+    Verdict::Granted
 }
 
 // The verdict of a step.
-fn step_verdict(bytes: &[u8], words: &[u64], x: u16) -> u8
+fn step_verdict(bytes: &[u8], words: &[u64], x: u16) -> Verdict
     requires { BytesLent bytes.now }
-    ensures { (order : Order) → result ≡ verdict_of (model·events.step order (memory bytes.now words.now) x) }
+    ensures { (order : Order) → number_of result ≡ verdict_of (model·events.step order (memory bytes.now words.now) x) }
 {
     if records::field(bytes, x, KIND) == FREE {
-        return model::NUMBER;
+        return Verdict::Number;
     }
     if records::field(bytes, x, MARKS) != 0 {
-        return model::STILL;
+        return Verdict::Still;
     }
     if marks::is_fed(bytes, words, x) {
-        model::GRANTED
+        Verdict::Granted
     } else {
-        model::STILL
+        Verdict::Still
     }
 }
 
 // An unmarked thing that a marked one has a flow to is marked and, for a task, its objects.
-pub fn step(bytes: &mut [u8], words: &[u64], order: Order, x: u16) -> u8
-    requires { Ready order bytes.old words.now }
-    ensures { left result 0 bytes.new words.now ≡ outcome (memory bytes.old words.now) (model·events.step order (memory bytes.old words.now) x) }
+pub fn step(bytes: &mut [u8], words: &[u64], order: &Order, x: u16) -> Verdict
+    requires { Ready order.now bytes.old words.now }
+    ensures { left (number_of result) 0 bytes.new words.now ≡ outcome (memory bytes.old words.now) (model·events.step order.now (memory bytes.old words.now) x) }
 {
     let verdict = step_verdict(bytes, words, x);
-    if verdict == model::GRANTED {
+    if let Verdict::Granted = verdict {
         marks::mark_thing(bytes, x);
     }
     verdict
 }
 
 // Rounds of marking along the flows until one marks nothing; how many marked something.
-pub fn spread(bytes: &mut [u8], words: &[u64], order: Order) -> u8
-    requires { Ready order bytes.old words.now }
+pub fn spread(bytes: &mut [u8], words: &[u64], order: &Order) -> u8
+    requires { Ready order.now bytes.old words.now }
     ensures { left 0 result bytes.new words.now ≡ model·spread.spread (memory bytes.old words.now) }
 {
     let sources = sets::with_field(bytes, MARKS as usize);

@@ -11,7 +11,7 @@ returns-then-not-is_task c =
     let a = c.args in
     let m = memory a.bytes.now a.words.now in
     let t : task m a.task ≡ false = sym c.is_task.ensures ∙ c.if-not-is_task.true in
-    refused m (mark a.order m a.task) (sym (rw t)) refl
+    refused m (mark a.order.now m a.task) (sym (rw t)) refl
 
 pub returns : goal.returns
 unfolding verdict_of first_failing unless mark task effects
@@ -19,4 +19,4 @@ returns c =
     let a = c.args in
     let m = memory a.bytes.now a.words.now in
     let t : task m a.task ≡ true = sym c.is_task.ensures ∙ c.if-not-is_task.false in
-    made m (mark a.order m a.task) (sym (rw t)) refl (c.mark_outside.ensures a.words.now)
+    made m (mark a.order.now m a.task) (sym (rw t)) refl (c.mark_outside.ensures a.words.now)

@@ -4,4 +4,4 @@ use Rattle.marking.proofs.no_report.Goals as goal
 
 pub returns : goal.returns
 unfolding no_report
-returns c = refl
+returns c = rw c.number.ensures
