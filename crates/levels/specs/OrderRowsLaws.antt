@@ -1,12 +1,12 @@
 -- The order's test by whole rows is the order's test.
 -- Assumes nothing.
-use Rattle.std.specs.Prelude.{◌≡◌, refl, ◌⊎◌, Bool, true, false, not, ◌&&◌, ◌||◌, List, ℕ, zero, suc, ◌+◌, ◌-◌, ◌/◌, ◌%◌, ◌^◌, ◌≤◌, ◌<◌, ltb, eqb, get_or}
+use Rattle.std.specs.Prelude.{◌≡◌, refl, ◌⊎◌, Bool, true, false, not, ◌&&◌, ◌||◌, List, ℕ, zero, suc, ◌+◌, ◌-◌, ◌*◌, ◌/◌, ◌%◌, ◌^◌, ◌≤◌, ◌<◌, ltb, eqb, get_or}
 use Rattle.std.proofs.Common.{sym, ap, ◌∙◌, subst, inl, inr, ⊎_elim, true≢false, lt_of_not-le, not-suc-le-zero, one-mul, arith, shr-shr, ltb-true, lt-ltb, leb-true, le-leb, eqb-true, eq-eqb, ltb-false}
 use Rattle.std.proofs.lemmas.Bool.{not-true, eqb-false}
 use Rattle.std.proofs.Math.Bool.{and-eq-true_iff}
 use Rattle.std.specs.Int.Bits.{bit_and, bit_or, or_add_and, or_shifted_r, and_le_l}
-use Rattle.std.proofs.lemmas.Nat.{or_lt, and_le_r, leading_top, shr_le}
-use Rattle.std.specs.Int.Count.{count_trailing_zeros, count_leading_zeros}
+use Rattle.std.proofs.lemmas.Nat.{or_lt, and_le_r, shr_le}
+use Rattle.std.specs.Int.Count.{count_trailing_zeros}
 use Rattle.std.proofs.Math.Pow.{pow-lt}
 use Rattle.bits.specs.Bit.{bit}
 use Rattle.bits.specs.BitLaws.{bit_and_law, bit_or_law, bit_not, bit_pow, bit_zero, bit_below, bit_ext, bit_rest, trailing_set}
@@ -24,13 +24,6 @@ top_bit : (w b c : ℕ) → 2 ^ b ≤ w → w < 2 ^ suc b → bit w c ≡ (bit (
 top_bit w b c l h =
     let e : w ≡ bit_or (w - 2 ^ b) (2 ^ b) = sym (ap (bit_or (w - 2 ^ b)) (sym (one-mul (2 ^ b))) ∙ or_shifted_r 1 b (w - 2 ^ b) (omega arith) ∙ omega arith) in
     ap (λ (x : ℕ). bit x c) e ∙ bit_or_law (w - 2 ^ b) (2 ^ b) c ∙ rw (bit_pow b c)
-
--- where it is
-pub top_place : (w : ℕ) → 0 < w → w < 2 ^ 16 → (2 ^ (15 - count_leading_zeros 16 w) ≤ w) × (w < 2 ^ suc (15 - count_leading_zeros 16 w))
-top_place w some h =
-    let t = leading_top 16 w some h in
-    let e : 15 - count_leading_zeros 16 w ≡ t.0 = omega (arith, t.1) in
-    rw e (t.2, t.3)
 
 bit_shift : (w k i : ℕ) → bit (w / 2 ^ k) i ≡ bit w (k + i)
 unfolding bit
@@ -158,16 +151,13 @@ module _ (rows : List ℕ) (w : ℕ) where
               (λ (t : eqb c (count_trailing_zeros 16 left) ≡ false). simp (bit_rest 16 left c s.fits some, t, and-true, or_false))
               (either (eqb c (count_trailing_zeros 16 left)))
 
-      pub highest_in : bit left (15 - count_leading_zeros 16 left) ≡ true
-      highest_in =
-          let p = top_place left some s.fits in
-          let b = 15 - count_leading_zeros 16 left in
-          top_bit left b b p.0 p.1 ∙ simp (eq-eqb b b refl, or_true)
+    -- b is the highest of what is left
+    module _ (b : ℕ) (low : 2 ^ b ≤ left) (high : left < 2 * 2 ^ b) where
+      pub highest_in : bit left b ≡ true
+      highest_in = top_bit left b b low (omega arith) ∙ simp (eq-eqb b b refl, or_true)
 
-      pub without_highest : within rows w (15 - count_leading_zeros 16 left) ≡ true → Passed rows w (left - 2 ^ (15 - count_leading_zeros 16 left))
-      without_highest e =
-          let p = top_place left some s.fits in
-          passed_one (15 - count_leading_zeros 16 left) (left - 2 ^ (15 - count_leading_zeros 16 left)) e (omega (arith, s.fits)) (λ c. top_bit left (15 - count_leading_zeros 16 left) c p.0 p.1)
+      pub without_highest : within rows w b ≡ true → Passed rows w (left - 2 ^ b)
+      without_highest e = passed_one b (left - 2 ^ b) e (omega (arith, s.fits)) (λ c. top_bit left b c low (omega arith))
 
 -- ---- where all levels are covered, what is above each is closed
 

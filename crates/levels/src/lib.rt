@@ -1,4 +1,4 @@
-// The order of the levels, by value.
+// The order of the levels: its comparisons and its test, and sets of levels.
 #![tactic(auto)]
 
 ghost use Rattle.std.specs.Prelude.{◌≡◌, false, cond, ◌≤◌, ◌<◌, ltb, MatchBool};
@@ -38,12 +38,12 @@ impl Order {
     // Each level of the rest has its row within `set`, where those in a row found within are passed over, the highest first: on a
     // line numbered from the top down its row has all others.
     fn rest_closed(&self, set: u16, rest: u16) -> bool
-        requires { RowsFit self.now.rows × Passed self.now.rows set rest }
+        requires { Passed self.now.rows set rest }
         ensures { MatchBool result (AllCovered self.now.rows set) (closed self.now.rows set ≡ false) }
     {
         let mut left = rest;
         while left != 0 {
-            let b = 15 - left.leading_zeros();
+            let b = left.ilog2();
             let row = self.rows[b as usize];
             if row | set != set {
                 return false;
@@ -57,7 +57,6 @@ impl Order {
     // which shows what is passed over here, so all levels together miss nothing. The lowest comes first: on a line numbered upwards
     // its row has all others.
     fn is_closed(&self, set: u16) -> bool
-        requires { RowsFit self.now.rows }
         ensures { MatchBool result (AllCovered self.now.rows set) (closed self.now.rows set ≡ false) }
     {
         if set == 0 {
@@ -81,7 +80,7 @@ impl Order {
 
     // Where what is strictly above a is closed, a breaks neither transitivity nor antisymmetry.
     fn level_passes(&self, a: u16) -> bool
-        requires { RowsFit self.now.rows × (self.now.count ≤ 16) × (self.now.top < self.now.count) × (a < self.now.count) }
+        requires { (self.now.count ≤ 16) × (self.now.top < self.now.count) × (a < self.now.count) }
         ensures { MatchBool result (LevelCovered self.now.rows self.now.count self.now.top a) (level_passes self.now.rows self.now.count self.now.top a ≡ false) }
     {
         let row = self.row_of(a);
@@ -100,25 +99,6 @@ impl Order {
             }
         }
         any == 0
-    }
-
-    // Leaves at the first row that fails.
-    fn rows_pass(&self) -> bool
-        requires { RowsFit self.now.rows }
-        ensures { result ≡ rows_pass self.now.rows self.now.count self.now.top }
-    {
-        if self.count > MOST_LEVELS {
-            return false;
-        }
-        if self.top >= self.count {
-            return false;
-        }
-        for a in 0..self.count {
-            if !self.level_passes(a) {
-                return false;
-            }
-        }
-        self.rest_empty()
     }
 }
 
@@ -147,8 +127,12 @@ pub fn with_level(set: u16, l: u16) -> u16
     set | (1u16 << l)
 }
 
+// The order's test, by whole rows. It leaves at the first row that fails.
 pub fn order_passes(order: Order) -> bool
     ensures { result ≡ order_passes order }
 {
-    order.rows_pass()
+    if order.count > MOST_LEVELS || order.top >= order.count {
+        return false;
+    }
+    (0..order.count).all(|a| order.level_passes(a)) && order.rest_empty()
 }

@@ -1,4 +1,4 @@
-use Rattle.std.proofs.Common.{arith}
+use Rattle.std.proofs.Common.{arith, rules}
 use Rattle.std.proofs.lemmas.Bool.{eq-eqb, ne_eqb}
 use Rattle.levels.specs.OrderRows.{within}
 use Rattle.levels.specs.OrderRowsLaws.{passed_none, passed_all, passed_fails, passed_over, lowest_in, without_lowest}
@@ -18,4 +18,4 @@ unfolding within
 rest_closed-requires c =
     let all = passed_none c.args.self.now.rows _ c.ranges.set.fits in
     let e = eq-eqb _ _ c.if-row-set.false in
-    (c.requires, passed_over _ _ _ (without_lowest _ _ _ all (omega arith) e) _ (lowest_in _ _ _ all (omega arith)) (c.requires _) e)
+    passed_over _ _ _ (without_lowest _ _ _ all (omega arith) e) _ (lowest_in _ _ _ all (omega arith)) (search rules) e

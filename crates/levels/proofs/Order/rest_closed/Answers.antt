@@ -1,30 +1,29 @@
 -- Before each turn the levels of the set that are not left are covered.
-use Rattle.std.proofs.Common.{◌-◌, arith}
+use Rattle.std.proofs.Common.{arith, rules}
 use Rattle.std.proofs.lemmas.Bool.{eq-eqb, ne_eqb}
-use Rattle.std.specs.Int.Count.{count_leading_zeros}
 use Rattle.bits.specs.BitLaws.{one_shl}
 use Rattle.levels.specs.OrderRows.{within}
-use Rattle.levels.specs.OrderRowsLaws.{passed_all, passed_fails, passed_over, highest_in, without_highest, top_place}
+use Rattle.levels.specs.OrderRowsLaws.{passed_all, passed_fails, passed_over, highest_in, without_highest}
 use Rattle.levels.proofs.Order.rest_closed.Goals as goal
 
 pub returns-then-row-set : goal.returns-then-row-set
 unfolding within
 returns-then-row-set c =
     let l = c.loop-left in
-    passed_fails _ _ _ l.invariant _ (highest_in _ _ _ l.invariant (omega arith)) (ne_eqb _ _ c.if-row-set.true)
+    let b = c.ilog2-b.ensures in
+    passed_fails _ _ _ l.invariant _ (highest_in _ _ _ l.invariant _ b.power_le b.next_power_gt) (ne_eqb _ _ c.if-row-set.true)
 
 pub overflow_sub-left : goal.overflow_sub-left
-overflow_sub-left c =
-    let l = c.loop-left in
-    rw (one_shl 16 (15 - count_leading_zeros 16 l.left) (omega arith)) (top_place l.left (omega arith) l.invariant.fits).0
+overflow_sub-left c = rw (one_shl 16 c.ilog2-b.result (omega arith)) c.ilog2-b.ensures.power_le
 
 pub loop-left-preserved : goal.loop-left-preserved
 unfolding within
 loop-left-preserved c =
     let l = c.loop-left in
+    let b = c.ilog2-b.ensures in
     let e = eq-eqb _ _ c.if-row-set.false in
-    rw (one_shl 16 (15 - count_leading_zeros 16 l.left) (omega arith))
-    (passed_over _ _ _ (without_highest _ _ _ l.invariant (omega arith) e) _ (l.invariant.of_w _ (highest_in _ _ _ l.invariant (omega arith))) (c.requires.0 _) e)
+    rw (one_shl 16 c.ilog2-b.result (omega arith))
+    (passed_over _ _ _ (without_highest _ _ _ l.invariant _ b.power_le b.next_power_gt e) _ (l.invariant.of_w _ (highest_in _ _ _ l.invariant _ b.power_le b.next_power_gt)) (search rules) e)
 
 pub returns : goal.returns
 returns c = passed_all _ _ (rw c.loop-left-test.false at c.loop-left.invariant)
