@@ -9,12 +9,12 @@ use Rattle.bits.specs.AllLaws.{and_l, and_r}
 use Rattle.levels.specs.declared.Order.{Order}
 use Rattle.levels.specs.Order.{order_passes}
 use Rattle.records.specs.Records.{sound}
-use Rattle.model.specs.Verdicts.{row_state, row_order}
+use Rattle.model.specs.declared.Verdict.{Verdict}
+use Rattle.model.specs.Verdicts.{row_state, row_order, number_of}
 use Rattle.model.specs.State.{Memory, lengths_fit}
 use Rattle.model.specs.Ready.{Ready}
 use Rattle.model.specs.Events.{Outcome, left}
 use Rattle.model.specs.Monitor.{perform, fitted, refusal, refused_unless}
-use Rattle.model.specs.Told.{no_word}
 use Rattle.model.proofs.ReadyLaws.{sound_ready, through}
 use Rattle.model.specs.declared.Call.{Call}
 use Rattle.model.specs.declared.Call.TheVariants.{Start, Read, Write, Execute, Create, CreateRoot, Move, Delete, CallTask, Invoke, Pass, Post, Find, Mark, Step, Spread}
@@ -62,9 +62,12 @@ ready o m f p =
     let both = not-false (lengths_fit m && sound o m.bytes) f in
     sound_ready o m (not-false _ p) (and_l (lengths_fit m) (sound o m.bytes) both, and_r (lengths_fit m) (sound o m.bytes) both)
 
--- a verdict of no rounds, before the driver is told
-pub no_rounds : {out : Outcome} {v w n t : ℕ} {bs ws : List ℕ} → (w ≡ v) × (n ≡ 0) × (t ≡ no_word) → left v 0 bs ws ≡ out → left w n bs ws ≡ out
-no_rounds {out} {v} {w} {n} {t} {bs} {ws} p d = (λ i. left (p.0 i) (p.1 i) bs ws) ∙ d
+-- a verdict of no rounds
+pub no_rounds : {out : Outcome} {v w n : ℕ} {bs ws : List ℕ} → (w ≡ v) × (n ≡ 0) → left v 0 bs ws ≡ out → left w n bs ws ≡ out
+no_rounds {out} {v} {w} {n} {bs} {ws} p d = (λ i. left (p.0 i) (p.1 i) bs ws) ∙ d
+
+pub plainly : {out : Outcome} {v w : Verdict} {n : ℕ} {bs ws : List ℕ} → (w ≡ v) × (n ≡ 0) → left (number_of v) 0 bs ws ≡ out → left (number_of w) n bs ws ≡ out
+plainly p d = no_rounds (ap number_of p.0, p.1) d
 
 -- what a call leaves is its event's outcome, at the constructor that the call is
 pub answered : (o : Order) (m : Memory) {call k : Call} {out left : Outcome} → Ready o m.bytes m.words → call ≡ k → perform o m k ≡ fitted o m out → left ≡ out → left ≡ perform o m call

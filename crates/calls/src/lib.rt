@@ -5,27 +5,27 @@ ghost use Rattle.std.specs.Prelude.{◌≡◌, true, ◌&&◌, eqb};
 ghost use Rattle.rows.specs.Size.{numbers};
 ghost use Rattle.records.specs.Records.{sound};
 ghost use Rattle.levels.specs.Order.{order_passes};
-ghost use Rattle.model.specs.Verdicts.{granted, row_state};
+ghost use Rattle.model.specs.Verdicts.{granted, row_state, number_of};
 ghost use Rattle.model.specs.State.{memory, lengths_fit};
 ghost use Rattle.model.specs.Ready.{Ready};
 ghost use Rattle.model.specs.Events.{left};
 ghost use Rattle.model.specs.Monitor as model;
 ghost use Rattle.model.specs.Monitor.{refused_unless, started};
-ghost use Rattle.model.specs.Told.{no_word, told};
+ghost use Rattle.model.specs.Told.{no_word, word_of, told};
 ghost use Rattle.model.specs.Load as loads;
 ghost use Rattle.model.specs.Load.{in_turn, whole};
 ghost use Rattle.loading.specs.Calls.{calls_in};
 ghost use Rattle.tallies.specs.Entries.{InList, Enters};
 ghost use Rattle.tallies.specs.Counts.{records_in, left_over};
 ghost use Rattle.calls.specs.Request.{call_of};
-ghost use Rattle.calls.specs.Entered.{CallEntry, ToldEntry, LoadEntry, with_word};
+ghost use Rattle.calls.specs.Entered.{CallEntry, ToldEntry, LoadEntry, untold, with_word};
 ghost use Rattle.calls.specs.Ends.{ended, Performs, Loads};
 
 use creation::{create, create_root, execute};
 use events::{delete, move_object};
 use layout::Fault;
 use levels::Order;
-use model::{Answer, Call, NO_WORD};
+use model::{Answer, Call, Told, Verdict};
 use records::{Record, TASK};
 use table::Engine;
 use tallies::Entry;
@@ -87,9 +87,9 @@ fn lengths_fit(bytes: &[u8], words: &[u64]) -> bool
 }
 
 // The core alone, at the top; all else zero.
-fn set_up(bytes: &mut [u8], words: &mut [u64], order: Order)
-    requires { (lengths_fit (memory bytes.old words.old) ≡ true) × (order_passes order ≡ true) }
-    ensures { memory bytes.new words.new ≡ started order }
+fn set_up(bytes: &mut [u8], words: &mut [u64], order: &Order)
+    requires { (lengths_fit (memory bytes.old words.old) ≡ true) × (order_passes order.now ≡ true) }
+    ensures { memory bytes.new words.new ≡ started order.now }
 {
     let top = (order.top % 0x100) as u8;
     records::clear_all(bytes);
@@ -104,22 +104,22 @@ fn set_up(bytes: &mut [u8], words: &mut [u64], order: Order)
 }
 
 // A start tests lengths and the order only.
-fn start(bytes: &mut [u8], words: &mut [u64], order: Order) -> u8
-    ensures { left result 0 bytes.new words.new ≡ model.start order (memory bytes.old words.old) }
+fn start(bytes: &mut [u8], words: &mut [u64], order: &Order) -> Verdict
+    ensures { left (number_of result) 0 bytes.new words.new ≡ model.start order.now (memory bytes.old words.old) }
 {
     if !lengths_fit(bytes, words) {
-        return model::STATE;
+        return Verdict::State;
     }
-    if !levels::order_passes(order) {
-        return model::ORDER;
+    if !levels::order_passes(*order) {
+        return Verdict::Order;
     }
     set_up(bytes, words, order);
-    model::GRANTED
+    Verdict::Granted
 }
 
 // Row 2 of every call but a start.
-fn fits(bytes: &[u8], words: &[u64], order: Order) -> bool
-    ensures { result ≡ (lengths_fit (memory bytes.now words.now) && sound order bytes.now) }
+fn fits(bytes: &[u8], words: &[u64], order: &Order) -> bool
+    ensures { result ≡ (lengths_fit (memory bytes.now words.now) && sound order.now bytes.now) }
 {
     if lengths_fit(bytes, words) {
         records::sound(bytes, order.count, order.top)
@@ -128,207 +128,199 @@ fn fits(bytes: &[u8], words: &[u64], order: Order) -> bool
     }
 }
 
-// A verdict without rounds, as every call but a granted spread has it. No word yet: `tell` gives it last, in one place.
-fn plain(verdict: u8) -> Answer
-    ensures { (result.verdict ≡ verdict) × (result.rounds ≡ 0) × (result.told ≡ no_word) }
+// What a call comes to, before the driver is told.
+#[derive(Clone, Copy)]
+struct Outcome {
+    verdict: Verdict,
+    rounds: u8,
+}
+
+// As every call but a granted spread comes to it.
+fn plain(verdict: Verdict) -> Outcome
+    ensures { (result.verdict ≡ verdict) × (result.rounds ≡ 0) }
 {
-    Answer {
-        verdict,
-        rounds: 0,
-        told: NO_WORD,
+    Outcome { verdict, rounds: 0 }
+}
+
+// No word yet: `tell` gives it last, in one place.
+fn untold(number: u16, anew: bool, outcome: Outcome) -> Entry
+    ensures { result ≡ untold number anew outcome.verdict outcome.rounds }
+{
+    Entry {
+        number,
+        anew,
+        verdict: outcome.verdict,
+        rounds: outcome.rounds,
+        told: Told::Nothing,
     }
 }
 
 // The entry on record 0, of a start, of a load, and of a call refused with 2 or 3: a granted one zeroes the list.
-fn on_zero(verdict: u8) -> Entry
-    ensures { (result.answer.verdict ≡ verdict) × (result.answer.rounds ≡ 0) × Enters result 0 (eqb verdict granted) × InList result × (result.answer.told ≡ no_word) }
+fn on_zero(verdict: Verdict) -> Entry
+    ensures { (number_of result.verdict ≡ number_of verdict) × (result.rounds ≡ 0) × Enters result 0 (eqb (number_of verdict) granted) × InList result × (word_of result.told ≡ no_word) }
 {
-    let answer = plain(verdict);
-    Entry {
-        answer,
-        number: 0,
-        anew: verdict == model::GRANTED,
-    }
+    untold(0, verdict == Verdict::Granted, plain(verdict))
 }
 
 // A call that has passed rows 2 and 3; a start tests for itself.
-fn event(bytes: &mut [u8], words: &mut [u64], order: Order, engine: Engine, call: Call) -> Answer
-    requires { Ready order bytes.old words.old }
-    ensures { left result.verdict result.rounds bytes.new words.new ≡ model.perform order (memory bytes.old words.old) call }
+fn event<E: Engine>(bytes: &mut [u8], words: &mut [u64], order: &Order, call: Call) -> Outcome
+    requires { Ready order.now bytes.old words.old }
+    ensures { left (number_of result.verdict) result.rounds bytes.new words.new ≡ model.perform order.now (memory bytes.old words.old) call }
 {
     match call {
         Call::Start => plain(start(bytes, words, order)),
-        Call::Read(e, d, o) => plain(events::read(bytes, words, order, engine, e, d, o)),
-        Call::Write(e, d, o) => plain(events::write(bytes, words, order, engine, e, d, o)),
+        Call::Read(e, d, o) => plain(events::read::<E>(bytes, words, order, e, d, o)),
+        Call::Write(e, d, o) => plain(events::write::<E>(bytes, words, order, e, d, o)),
         Call::Execute(c, i, n, l, r) => plain(execute(bytes, words, order, c, i, n, l, r)),
         Call::Create(c, d, n, k, l) => plain(create(bytes, words, order, c, d, n, k, l)),
         Call::CreateRoot(c, d, n, l) => plain(create_root(bytes, words, order, c, d, n, l)),
-        Call::Move(e, d, o, f, t) => plain(move_object(bytes, words, order, engine, e, d, o, f, t)),
-        Call::Delete(e, d, o, k) => plain(delete(bytes, words, order, engine, e, d, o, k)),
-        Call::CallTask(a, b) => plain(flows::call_task(bytes, words, order, engine, a, b)),
-        Call::Invoke(a, b) => plain(flows::invoke(bytes, words, order, engine, a, b)),
-        Call::Pass(z, x, y) => plain(flows::pass(bytes, words, order, engine, z, x, y)),
-        Call::Post(x, z, y) => plain(flows::post(bytes, words, order, engine, x, z, y)),
+        Call::Move(e, d, o, f, t) => plain(move_object::<E>(bytes, words, order, e, d, o, f, t)),
+        Call::Delete(e, d, o, k) => plain(delete::<E>(bytes, words, order, e, d, o, k)),
+        Call::CallTask(a, b) => plain(flows::call_task::<E>(bytes, words, order, a, b)),
+        Call::Invoke(a, b) => plain(flows::invoke::<E>(bytes, words, order, a, b)),
+        Call::Pass(z, x, y) => plain(flows::pass::<E>(bytes, words, order, z, x, y)),
+        Call::Post(x, z, y) => plain(flows::post::<E>(bytes, words, order, x, z, y)),
         Call::Find(x, z, y) => plain(flows::find(bytes, words, order, x, z, y)),
         Call::Mark(e) => plain(marking::mark(bytes, words, order, e)),
         Call::Step(x) => plain(marking::step(bytes, words, order, x)),
-        Call::Spread => Answer {
-            verdict: model::GRANTED,
+        Call::Spread => Outcome {
+            verdict: Verdict::Granted,
             rounds: marking::spread(bytes, words, order),
-            told: NO_WORD,
         },
     }
 }
 
 // A call that is lent a list of the right length: done on bytes and words, to be entered afterwards.
-fn carry_out(bytes: &mut [u8], words: &mut [u64], order: Order, engine: Engine, call: Call) -> Entry
-    ensures { CallEntry (memory bytes.old words.old) call (model.perform order (memory bytes.old words.old) call) result bytes.new words.new }
+fn carry_out<E: Engine>(bytes: &mut [u8], words: &mut [u64], order: &Order, call: Call) -> Entry
+    ensures { CallEntry (memory bytes.old words.old) call (model.perform order.now (memory bytes.old words.old) call) result bytes.new words.new }
 {
     if let Call::Start = call {
         return on_zero(start(bytes, words, order));
     }
     if !fits(bytes, words, order) {
-        return on_zero(model::STATE);
+        return on_zero(Verdict::State);
     }
-    if !levels::order_passes(order) {
-        return on_zero(model::ORDER);
+    if !levels::order_passes(*order) {
+        return on_zero(Verdict::Order);
     }
     let number = tallies::asker(bytes, call);
-    let answer = event(bytes, words, order, engine, call);
-    Entry {
-        answer,
-        number,
-        anew: false,
-    }
+    let outcome = event::<E>(bytes, words, order, call);
+    untold(number, false, outcome)
 }
 
 // The same for a list of so many records: another length is refused with 2.
-fn judge(
+fn judge<E: Engine>(
     bytes: &mut [u8],
     words: &mut [u64],
     lent: usize,
-    order: Order,
-    engine: Engine,
+    order: &Order,
     call: Call,
 ) -> Entry
-    ensures { CallEntry (memory bytes.old words.old) call (refused_unless (eqb lent numbers) row_state (memory bytes.old words.old) (model.perform order (memory bytes.old words.old) call)) result bytes.new words.new }
+    ensures { CallEntry (memory bytes.old words.old) call (refused_unless (eqb lent numbers) row_state (memory bytes.old words.old) (model.perform order.now (memory bytes.old words.old) call)) result bytes.new words.new }
 {
     if lent != records::RECORDS {
-        return on_zero(model::STATE);
+        return on_zero(Verdict::State);
     }
-    carry_out(bytes, words, order, engine, call)
+    carry_out::<E>(bytes, words, order, call)
 }
 
 // The entry with the word that the driver is told.
 fn tell(call: Call, entry: Entry) -> Entry
-    ensures { result ≡ with_word (told call entry.answer.verdict) entry }
+    ensures { (result ≡ with_word result.told entry) × (word_of result.told ≡ told call (number_of entry.verdict)) }
 {
-    let verdict = entry.answer.verdict;
-    let rounds = entry.answer.rounds;
-    let told = telling::told(call, verdict);
-    let answer = Answer {
-        verdict,
-        rounds,
-        told,
-    };
     Entry {
-        answer,
-        number: entry.number,
-        anew: entry.anew,
+        told: telling::told(call, entry.verdict),
+        ..entry
     }
 }
 
 // A call, judged and told.
-pub fn call_lent(
+pub fn call_lent<E: Engine>(
     bytes: &mut [u8],
     words: &mut [u64],
     lent: usize,
-    order: Order,
-    engine: Engine,
+    order: &Order,
     call: Call,
 ) -> Entry
-    ensures { ToldEntry (memory bytes.old words.old) call (refused_unless (eqb lent numbers) row_state (memory bytes.old words.old) (model.perform order (memory bytes.old words.old) call)) result bytes.new words.new }
+    ensures { ToldEntry (memory bytes.old words.old) call (refused_unless (eqb lent numbers) row_state (memory bytes.old words.old) (model.perform order.now (memory bytes.old words.old) call)) result bytes.new words.new }
 {
-    let entry = judge(bytes, words, lent, order, engine, call);
+    let entry = judge::<E>(bytes, words, lent, order, call);
     tell(call, entry)
 }
 
 // A whole call; the list is lent as plain numbers.
-pub fn perform(
+pub fn perform<E: Engine>(
     bytes: &mut [u8],
     words: &mut [u64],
     counts: &mut [u32],
-    order: Order,
-    engine: Engine,
+    order: &Order,
     call: Call,
 ) -> Answer
-    ensures performs { Performs order (memory bytes.old words.old) (records_in counts.old) call (ended result bytes.new words.new (records_in counts.new)) }
+    ensures performs { Performs order.now (memory bytes.old words.old) (records_in counts.old) call (ended result bytes.new words.new (records_in counts.new)) }
     ensures counts_unchanged { left_over counts.new ≡ left_over counts.old }
 {
     let lent = tallies::records_in(counts);
-    let entry = call_lent(bytes, words, lent, order, engine, call);
+    let entry = call_lent::<E>(bytes, words, lent, order, call);
     tallies::enter_counts(counts, entry);
-    entry.answer
+    entry.answer()
 }
 
 // The calls of a layout's text on the state of a start, which is left again if one of them is refused.
-fn make(bytes: &mut [u8], words: &mut [u64], order: Order, engine: Engine, text: &[u8]) -> u8
-    requires { Ready order bytes.old words.old }
-    ensures { left result 0 bytes.new words.new ≡ whole order (in_turn order (calls_in text.now) (memory bytes.old words.old)) }
+fn make<E: Engine>(bytes: &mut [u8], words: &mut [u64], order: &Order, text: &[u8]) -> Verdict
+    requires { Ready order.now bytes.old words.old }
+    ensures { left (number_of result) 0 bytes.new words.new ≡ whole order.now (in_turn order.now (calls_in text.now) (memory bytes.old words.old)) }
 {
-    let verdict = loading::lay_out(bytes, words, order, engine, text);
-    if verdict > model::SLIPPED {
+    let verdict = loading::lay_out::<E>(bytes, words, order, text);
+    if !verdict.is_done() {
         set_up(bytes, words, order);
     }
     verdict
 }
 
 // A load is a start, and then the text: its form, its depth, and its calls.
-fn load(bytes: &mut [u8], words: &mut [u64], order: Order, engine: Engine, text: &[u8]) -> u8
-    ensures { left result 0 bytes.new words.new ≡ loads.load order (memory bytes.old words.old) text.now }
+fn load<E: Engine>(bytes: &mut [u8], words: &mut [u64], order: &Order, text: &[u8]) -> Verdict
+    ensures { left (number_of result) 0 bytes.new words.new ≡ loads.load order.now (memory bytes.old words.old) text.now }
 {
     let begun = start(bytes, words, order);
-    if begun > model::SLIPPED {
+    if !begun.is_done() {
         return begun;
     }
     match layout::check(text) {
-        Ok(()) => make(bytes, words, order, engine, text),
-        Err(Fault::Broken { .. }) => model::FORM,
-        Err(Fault::Deep { .. }) => model::DEEP,
+        Ok(()) => make::<E>(bytes, words, order, text),
+        Err(Fault::Broken { .. }) => Verdict::Form,
+        Err(Fault::Deep { .. }) => Verdict::Deep,
     }
 }
 
 // A load that is lent a list of so many records.
-pub fn load_lent(
+pub fn load_lent<E: Engine>(
     bytes: &mut [u8],
     words: &mut [u64],
     lent: usize,
-    order: Order,
-    engine: Engine,
+    order: &Order,
     text: &[u8],
 ) -> Entry
-    ensures { LoadEntry (refused_unless (eqb lent numbers) row_state (memory bytes.old words.old) (loads.load order (memory bytes.old words.old) text.now)) result bytes.new words.new }
+    ensures { LoadEntry (refused_unless (eqb lent numbers) row_state (memory bytes.old words.old) (loads.load order.now (memory bytes.old words.old) text.now)) result bytes.new words.new }
 {
     if lent != records::RECORDS {
-        return on_zero(model::STATE);
+        return on_zero(Verdict::State);
     }
-    on_zero(load(bytes, words, order, engine, text))
+    on_zero(load::<E>(bytes, words, order, text))
 }
 
 // A whole load, as perform is a whole call: the list is lent as plain numbers.
-pub fn load_counts(
+pub fn load_counts<E: Engine>(
     bytes: &mut [u8],
     words: &mut [u64],
     counts: &mut [u32],
-    order: Order,
-    engine: Engine,
+    order: &Order,
     text: &[u8],
 ) -> Answer
-    ensures loads { Loads order (memory bytes.old words.old) (records_in counts.old) text.now (ended result bytes.new words.new (records_in counts.new)) }
+    ensures loads { Loads order.now (memory bytes.old words.old) (records_in counts.old) text.now (ended result bytes.new words.new (records_in counts.new)) }
     ensures counts_unchanged { left_over counts.new ≡ left_over counts.old }
 {
     let lent = tallies::records_in(counts);
-    let entry = load_lent(bytes, words, lent, order, engine, text);
+    let entry = load_lent::<E>(bytes, words, lent, order, text);
     tallies::enter_counts(counts, entry);
-    entry.answer
+    entry.answer()
 }

@@ -29,7 +29,7 @@ is_started o bs ws fits ok =
 
 pub returns : goal.returns
 returns c =
-    let t = c.args.order.top % 0x100 in
+    let t = c.args.order.now.top % 0x100 in
     let bytes = c.set_record.ensures ∙ ap (λ (l : List ℕ). set_record l 0 1 t t 0 0 0 0) c.clear_all.ensures in
     let words = c.clear_all-2.ensures in
-    (λ i. memory (bytes i) (words i)) ∙ is_started c.args.order c.args.bytes.now c.args.words.now c.requires.0 c.requires.1
+    (λ i. memory (bytes i) (words i)) ∙ is_started c.args.order.now c.args.bytes.now c.args.words.now c.requires.0 c.requires.1
