@@ -365,6 +365,7 @@ fn core_sound(bytes: &Lent, order: Order) -> bool
 }
 
 // The records of the group from x on are free.
+#[tactic(auto, using(bits::specs::AllLaws::all_none, bits::specs::AllLaws::all_step, bits::specs::BitLaws::or_zero), unfolding(crate::specs::GroupLaws::group_free))]
 fn group_free(bytes: &Lent, x: usize) -> bool
     requires { (x + group_size ≤ numbers) }
     ensures { result ≡ group_free bytes.now x }
@@ -378,6 +379,7 @@ fn group_free(bytes: &Lent, x: usize) -> bool
 
 // The levels and read levels of all records are below the count, if they are below 0x80: with 0x80 less the count added, none
 // reaches 0x80, which is bit 15 of the number for the level and bit 23 for the read level.
+#[tactic(auto, using(bits::specs::AllLaws::all_none, bits::specs::AllLaws::all_step, crate::specs::SeenLaws::or_below), unfolding(crate::specs::GroupLaws::levels_fit, crate::specs::WordLaws::below))]
 fn levels_fit(bytes: &Lent, count: usize) -> bool
     requires { (count < 0x80) }
     ensures { result ≡ levels_fit count bytes.now }
