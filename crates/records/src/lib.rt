@@ -5,7 +5,6 @@ ghost use Rattle.std.specs.Prelude.{◌≡◌, true, false, List, ℕ, ◌+◌, 
 ghost use Rattle.records.specs.Records as model;
 ghost use Rattle.rows.specs.Size.{numbers};
 ghost use Rattle.records.specs.Records.{
-  BytesLent,
   set_field,
   set_record,
   kind,
@@ -163,7 +162,7 @@ type Lent = [u8; BYTES];
 // The whole record of x as one number.
 #[tactic(auto, unfolding(crate::specs::WordLaws::word, crate::specs::WordLaws::half, crate::specs::Records::field))]
 fn word(bytes: &Lent, x: usize) -> usize
-    requires { (x < numbers) }
+    requires { x < numbers }
     ensures { result ≡ word bytes.now x }
 {
     let i = RECORD_SIZE * x;
@@ -181,7 +180,7 @@ fn word(bytes: &Lent, x: usize) -> usize
 
 #[tactic(auto, unfolding(crate::specs::Records::field))]
 fn kind_at(bytes: &Lent, x: usize) -> u8
-    requires { (x < numbers) }
+    requires { x < numbers }
     ensures { result ≡ kind bytes.now x }
 {
     bytes[RECORD_SIZE * x]
@@ -269,7 +268,7 @@ impl Seen {
     // With the record w of the object x.
     #[tactic(auto, using(crate::specs::SeenLaws::with_object, crate::specs::WordLaws::in_number))]
     fn with_object(self, bytes: &Lent, x: usize, w: usize) -> Seen
-        requires { (x < numbers) }
+        requires { x < numbers }
         ensures { Sees (object_fits bytes.now x w) w self result }
     {
         let container = w / 0x1_0000_0000 % 0x100;
@@ -306,7 +305,7 @@ impl Seen {
     // With the record of x, which is an object's where its kind is 2.
     #[tactic(auto, unfolding(crate::specs::WordLaws::word_fits))]
     fn with_record(self, bytes: &Lent, x: usize) -> Seen
-        requires { (x < numbers) }
+        requires { x < numbers }
         ensures { Sees (word_fits bytes.now x) (word bytes.now x) self result }
     {
         let w = word(bytes, x);
@@ -365,8 +364,9 @@ fn core_sound(bytes: &Lent, order: Order) -> bool
 }
 
 // The records of the group from x on are free.
+#[tactic(auto, using(bits::specs::AllLaws::all_none, bits::specs::AllLaws::all_step, bits::specs::BitLaws::or_zero), unfolding(crate::specs::GroupLaws::group_free))]
 fn group_free(bytes: &Lent, x: usize) -> bool
-    requires { (x + group_size ≤ numbers) }
+    requires { x + group_size ≤ numbers }
     ensures { result ≡ group_free bytes.now x }
 {
     let mut any = 0;
@@ -378,8 +378,9 @@ fn group_free(bytes: &Lent, x: usize) -> bool
 
 // The levels and read levels of all records are below the count, if they are below 0x80: with 0x80 less the count added, none
 // reaches 0x80, which is bit 15 of the number for the level and bit 23 for the read level.
+#[tactic(auto, using(bits::specs::AllLaws::all_none, bits::specs::AllLaws::all_step, crate::specs::SeenLaws::or_below), unfolding(crate::specs::GroupLaws::levels_fit, crate::specs::WordLaws::below))]
 fn levels_fit(bytes: &Lent, count: usize) -> bool
-    requires { (count < 0x80) }
+    requires { count < 0x80 }
     ensures { result ≡ levels_fit count bytes.now }
 {
     let rise = (0x80 - count) * 0x1_0100;
@@ -393,7 +394,7 @@ fn levels_fit(bytes: &Lent, count: usize) -> bool
 // The four groups from x on are free: one test for 32 records.
 #[tactic(auto, unfolding(crate::specs::GroupLaws::groups_free))]
 fn groups_free(bytes: &Lent, x: usize) -> bool
-    requires { (x + 32 ≤ numbers) }
+    requires { x + 32 ≤ numbers }
     ensures { result ≡ groups_free bytes.now x }
 {
     group_free(bytes, x)
@@ -462,7 +463,7 @@ fn container_sound(bytes: &Lent, x: usize, container: usize) -> bool
 // The record of x is sound, field by field. The spare bytes stand above the marks.
 #[tactic(auto, using(crate::specs::WordLaws::plain_record), unfolding(crate::specs::WordLaws::plain_sound))]
 fn plain_record(bytes: &Lent, order: Order, x: usize) -> bool
-    requires { (x < numbers) }
+    requires { x < numbers }
     ensures { result ≡ sound_record order bytes.now x }
 {
     let w = word(bytes, x);

@@ -1,4 +1,5 @@
 // Sets of numbers, a bit for each, in two words.
+// By hand: `BytesLent` and `TableLent` stand in each contract, since what the public functions take stays a slice.
 #![tactic(auto)]
 
 mod numbers;
