@@ -1,9 +1,10 @@
 -- A place in a text and what is left there; what the answers to fields, objects' words and tasks tell of a reading.
 -- Assumes nothing.
-use Rattle.std.specs.Prelude.{◌≡◌, Bool, true, false, cond, None, Some, Result, Ok, Err, List, [], ◌∷◌, ◌++◌, ℕ, ◌+◌, ◌-◌, ◌*◌, ◌≤◌, ◌<◌, eqb, length, get_or, drop}
+use Rattle.std.specs.Prelude.{◌≡◌, Bool, true, false, cond, None, Some, Result, Ok, Err, List, [], ◌∷◌, ◌++◌, ℕ, ◌+◌, ◌-◌, ◌*◌, ◌≤◌, ◌<◌, eqb, length, get_or, take, drop}
 use Rattle.std.proofs.Math.Path.{refl}
-use Rattle.std.proofs.Common.{sym, ap, ◌∙◌, arith, add-one, length-drop, drop_of_length-le, drop-cons, drop-drop, eqb-true, eq-eqb}
-use Rattle.std.proofs.lemmas.Bool.{false≢true}
+use Rattle.std.proofs.Common.{sym, ap, ◌∙◌, arith, add-one, length-drop, drop_of_length-le, drop-cons, drop-drop, eqb-true, eq-eqb, le-leb}
+use Rattle.std.proofs.lemmas.Bool.{false≢true, lt-leb}
+use Rattle.std.proofs.lemmas.List.{append_assoc, take-append-le, take-take, take-append-drop, length-take-le}
 use Rattle.std.proofs.lemmas.Result.{err_from_is_err_and}
 use Rattle.std.specs.Result.{IsErrAnd}
 use Rattle.std.proofs.Math.Decide.{dec_lt}
@@ -119,13 +120,17 @@ pub digit_past : (l : List ℕ) (at : ℕ) → length l ≤ at → None ≡ digi
 unfolding digit_at
 digit_past l at h = rw (drop_of_length-le l h)
 
-pub digit_not : (l : List ℕ) (at : ℕ) → at < length l → is_digit (get_or l at 0) ≡ false → None ≡ digit_at (drop at l)
-unfolding digit_at
-digit_not l at h e = rw (cons_at l at h, e)
+pub digit_low : (l : List ℕ) (at : ℕ) → at < length l → get_or l at 0 < 48 → None ≡ digit_at (drop at l)
+unfolding digit_at is_digit
+digit_low l at h p = rw (cons_at l at h, lt-leb 48 (get_or l at 0) p)
 
-pub digit_here : (l : List ℕ) (at : ℕ) → at < length l → is_digit (get_or l at 0) ≡ true → Some (get_or l at 0 - 48) ≡ digit_at (drop at l)
-unfolding digit_at
-digit_here l at h e = rw (cons_at l at h, e)
+pub digit_high : (l : List ℕ) (at : ℕ) → at < length l → 57 < get_or l at 0 → None ≡ digit_at (drop at l)
+unfolding digit_at is_digit
+digit_high l at h p = rw (cons_at l at h, le-leb 48 (get_or l at 0) (omega arith), lt-leb (get_or l at 0) 57 p)
+
+pub digit_here : (l : List ℕ) (at : ℕ) → at < length l → 48 ≤ get_or l at 0 → get_or l at 0 ≤ 57 → Some (get_or l at 0 - 48) ≡ digit_at (drop at l)
+unfolding digit_at is_digit
+digit_here l at h p q = rw (cons_at l at h, le-leb 48 (get_or l at 0) p, le-leb (get_or l at 0) 57 q)
 
 at_digit : (t : List ℕ) (d : ℕ) → digit_at t ≡ Some d → (s : List ℕ) × (t ≡ digit d ∷ s) × (d ≤ 9)
 unfolding digit_at
@@ -226,6 +231,14 @@ pub word_stands : (w t u : List ℕ) → t ≡ w ++ u → field w t ≡ number u
 unfolding field
 word_stands [] t u e = rw e
 word_stands (c ∷ w) t u e = rw (e, eq-eqb c c refl) (word_stands w (w ++ u) u refl)
+
+-- by its first four bytes and its last four
+pub word_ends : (w t u v : List ℕ) → 4 ≤ length w → length w ≤ 8 → t ≡ take 4 w ++ u → drop (length w - 4) t ≡ drop (length w - 4) w ++ v → field w t ≡ number (drop (length w) t)
+word_ends w t u v few many p q =
+    let k = length w - 4 in
+    let first : take k t ≡ take k w = ap (take k) p ∙ take-append-le k (take 4 w) u (rw (length-take-le 4 w few) (omega arith)) ∙ take-take k 4 w (omega arith) in
+    let whole : t ≡ w ++ v = sym (take-append-drop k t) ∙ rw (first, q, ← append_assoc (take k w) (drop k w) v, take-append-drop k w) in
+    word_stands w t v whole ∙ ap number (sym (ap (drop (length w)) whole ∙ drop-append_seam w v))
 
 -- ---- an answer
 

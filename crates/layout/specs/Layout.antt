@@ -1,14 +1,12 @@
 -- A power-up layout, how deep it is, and its text, byte by byte.
 -- Assumes nothing.
 use Rattle.std.specs.Prelude.{cond, List, [], ◌∷◌, ◌++◌, ℕ, ◌+◌, ◌/◌, ◌%◌, ◌≤◌, max, ltb}
-
--- ---- a layout
-
 -- the numbers that an object's form names: its number, its driver's and its level
 pub use Rattle.layout.specs.declared.fields.Object.{Object}
-
 -- the numbers that a task's form names: its number, its image's, its level and the level that it reads
 pub use Rattle.layout.specs.declared.fields.Task.{Task}
+
+-- ---- a layout
 
 -- objects side by side: the first one, what it holds, and those after it
 pub data Objects : Type 0 where

@@ -1,5 +1,5 @@
 // The numbers, words and brackets of a layout's text, read in place: the heads of objects, and tasks.
-ghost use Rattle.std.specs.Prelude.{◌≡◌, ◌≤◌, IfSome, length, drop};
+ghost use Rattle.std.specs.Prelude.{◌≡◌, ◌+◌, ◌<◌, ◌≤◌, false, IsTrue, IfSome, length, get_or, drop};
 ghost use Rattle.layout.specs.Reading.{number, field, head, task_at};
 ghost use Rattle.layout.specs.Answers.{digit_at, stands_at, answer};
 
@@ -41,16 +41,19 @@ pub fn is_at(text: &[u8], at: usize, b: u8) -> bool
 }
 
 // The digit at `at`, if there is one.
+// By hand: a match on b'0'..=b'9', and is_ascii_digit, were tried: with either the reader of a text takes a fifth longer.
 fn digit_at(text: &[u8], at: usize) -> Option<u16>
     ensures value { result ≡ digit_at (drop at text.now) }
     ensures small { IfSome result (λ d. d ≤ 9) }
 {
     let b = *text.get(at)?;
-    if b.is_ascii_digit() {
-        Some((b - b'0') as u16)
-    } else {
-        None
+    if b < b'0' {
+        return None;
     }
+    if b > b'9' {
+        return None;
+    }
+    Some((b - b'0') as u16)
 }
 
 fn number_at(text: &[u8], at: usize) -> Result<Found<u16>, Lost>
@@ -84,30 +87,49 @@ fn number_at(text: &[u8], at: usize) -> Result<Found<u16>, Lost>
     })
 }
 
-// A word at `at`, and the number after it, byte by byte: where the word does not stand, this finds the place.
+// Whether a word stands at `at`: its first four bytes do, and its last four. Of a word that is known, each four are compared as one number.
+#[inline(always)]
+fn stands(text: &[u8], at: usize, word: &[u8]) -> bool
+    requires { (at ≤ length text.now) × (4 ≤ length word.now) × (length word.now ≤ 8) }
+    ensures { IsTrue result → (at + length word.now ≤ length text.now) × (field word.now (drop at text.now) ≡ number (drop (at + length word.now) text.now)) }
+{
+    let rest = &text[at..];
+    let size = word.len();
+    if rest.len() < size {
+        return false;
+    }
+    rest.starts_with(&word[..4]) && rest[size - 4..].starts_with(&word[size - 4..])
+}
+
+// How many bytes of a word stand at `at`, from its first one on.
 #[cold]
-fn field_by_bytes(text: &[u8], at: usize, word: &[u8]) -> Result<Found<u16>, Lost>
+fn same_bytes(text: &[u8], at: usize, word: &[u8]) -> usize
     requires { at ≤ length text.now }
+    ensures within { (result ≤ length word.now) × (at + result ≤ length text.now) }
+    ensures same { field word.now (drop at text.now) ≡ field (drop result word.now) (drop (at + result) text.now) }
+    ensures differs { result < length word.now → stands_at (get_or word.now result 0) (drop (at + result) text.now) ≡ false }
+{
+    for (i, b) in word.iter().enumerate() {
+        if !is_at(text, at + i, *b) {
+            return i;
+        }
+    }
+    word.len()
+}
+
+// A word at `at`, and the number after it.
+#[inline(always)]
+fn field_at(text: &[u8], at: usize, word: &[u8]) -> Result<Found<u16>, Lost>
+    requires { (at ≤ length text.now) × (4 ≤ length word.now) × (length word.now ≤ 8) }
     ensures { result ≡ answer (length text.now) (field word.now (drop at text.now)) }
 {
-    for i in 0..word.len() {
-        if !is_at(text, at + i, word[i]) {
-            return Err(Lost { at: at + i });
+    if !stands(text, at, word) {
+        let same = same_bytes(text, at, word);
+        if same < word.len() {
+            return Err(Lost { at: at + same });
         }
     }
     number_at(text, at + word.len())
-}
-
-// A word at `at`, and the number after it. Inlined, so that a word is compared in one or two steps.
-#[inline(always)]
-fn field_at(text: &[u8], at: usize, word: &[u8]) -> Result<Found<u16>, Lost>
-    requires { at ≤ length text.now }
-    ensures { result ≡ answer (length text.now) (field word.now (drop at text.now)) }
-{
-    if text[at..].starts_with(word) {
-        return number_at(text, at + word.len());
-    }
-    field_by_bytes(text, at, word)
 }
 
 // An object's words, up to what it holds.

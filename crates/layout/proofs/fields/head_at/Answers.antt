@@ -1,4 +1,4 @@
-use Rattle.std.proofs.Common.{sym, ◌∙◌}
+use Rattle.std.proofs.Common.{sym, ◌∙◌, arith}
 use Rattle.layout.specs.Layout.{object_word, driver_word, level_word}
 use Rattle.layout.proofs.PlaceLaws.{field_got, lost_of, lost_is, passed_on, found_is, head_no_number, head_no_driver, head_no_level, head_whole}
 use Rattle.layout.proofs.fields.head_at.Goals as goal
@@ -9,7 +9,7 @@ returns-in_err-number c = passed_on _ _ c.from_residual.ensures.1 ∙ lost_is _ 
 
 pub field_at-requires-2 : goal.field_at-requires-2
 unfolding object_word
-field_at-requires-2 c = (field_got _ object_word _ _ (sym c.in_ok-number.ensures)).within
+field_at-requires-2 c = ((field_got _ object_word _ _ (sym c.in_ok-number.ensures)).within, omega arith, omega arith)
 
 pub returns-in_err-driver : goal.returns-in_err-driver
 unfolding object_word driver_word
@@ -19,7 +19,7 @@ returns-in_err-driver c =
 
 pub field_at-requires-3 : goal.field_at-requires-3
 unfolding driver_word
-field_at-requires-3 c = (field_got _ driver_word _ _ (sym c.in_ok-driver.ensures)).within
+field_at-requires-3 c = ((field_got _ driver_word _ _ (sym c.in_ok-driver.ensures)).within, omega arith, omega arith)
 
 pub returns-in_err-level : goal.returns-in_err-level
 unfolding object_word driver_word level_word

@@ -9,7 +9,7 @@ returns-in_err-number c = passed_on _ _ c.from_residual.ensures.1 ∙ lost_is _ 
 
 pub field_at-requires-2 : goal.field_at-requires-2
 unfolding task_word
-field_at-requires-2 c = (field_got _ task_word _ _ (sym c.in_ok-number.ensures)).within
+field_at-requires-2 c = ((field_got _ task_word _ _ (sym c.in_ok-number.ensures)).within, omega arith, omega arith)
 
 pub returns-in_err-image : goal.returns-in_err-image
 unfolding task_word image_word
@@ -19,7 +19,7 @@ returns-in_err-image c =
 
 pub field_at-requires-3 : goal.field_at-requires-3
 unfolding image_word
-field_at-requires-3 c = (field_got _ image_word _ _ (sym c.in_ok-image.ensures)).within
+field_at-requires-3 c = ((field_got _ image_word _ _ (sym c.in_ok-image.ensures)).within, omega arith, omega arith)
 
 pub returns-in_err-level : goal.returns-in_err-level
 unfolding task_word image_word level_word
@@ -30,7 +30,7 @@ returns-in_err-level c =
 
 pub field_at-requires-4 : goal.field_at-requires-4
 unfolding level_word
-field_at-requires-4 c = (field_got _ level_word _ _ (sym c.in_ok-level.ensures)).within
+field_at-requires-4 c = ((field_got _ level_word _ _ (sym c.in_ok-level.ensures)).within, omega arith, omega arith)
 
 pub returns-in_err-reads : goal.returns-in_err-reads
 unfolding task_word image_word level_word reads_word
