@@ -53,6 +53,8 @@ impl<const N: usize> Text<N> {
     }
 
     // In decimal.
+    // By hand: `write!` answers a Result, whose error nothing causes here, and prints by the library's definition of decimal, which is
+    // longer to read than `decimal`.
     pub fn number(&mut self, n: u8)
         ensures { Printed self.old (decimal n) self.new }
     {

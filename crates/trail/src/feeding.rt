@@ -1,6 +1,6 @@
 // A script whose input comes in pieces. Each is fed as it comes, and what it prints stands in a buffer until it is written.
 ghost use Rattle.std.specs.Prelude.{◌+◌, ◌*◌, ◌≤◌, ◌≡◌, length};
-ghost use Rattle.trail.specs.Buffers.{answer_size, marked_size, progress_in, reading_in};
+ghost use Rattle.trail.specs.Buffers.{answer_size, marked_size, progress_in, reading_in, Room};
 ghost use Rattle.trail.specs.Feeding.{nothing_fed, ended, after_byte, after_piece, closed, finished, emptied};
 
 use crate::lines::Monitor;
@@ -36,18 +36,17 @@ impl State {
 
     // A line is done, and its answer printed behind those before it.
     fn end_line(&mut self)
-        requires { length (progress_in self.old).printed + answer_size ≤ OUT }
+        requires { Room self.old answer_size }
         ensures ends { reading_in self.new ≡ ended (reading_in self.old) }
         ensures room { length (progress_in self.new).printed ≤ length (progress_in self.old).printed + answer_size }
     {
-        let line = self.line.as_slice();
-        let reply = self.monitor.do_line(line);
+        let reply = self.monitor.do_line(self.line.as_slice());
         self.line.clear();
         self.out.answer(reply);
     }
 
     fn feed_byte(&mut self, b: u8)
-        requires { length (progress_in self.old).printed + answer_size ≤ OUT }
+        requires { Room self.old answer_size }
         ensures feeds { reading_in self.new ≡ after_byte b (reading_in self.old) }
         ensures room { length (progress_in self.new).printed ≤ length (progress_in self.old).printed + answer_size }
     {
@@ -60,7 +59,7 @@ impl State {
 
     // Feeds a piece. Its answers fit: each answers a line, which has at least its line feed, with at most eight bytes.
     pub fn feed(&mut self, piece: &[u8])
-        requires { length (progress_in self.old).printed + answer_size * length piece.now ≤ OUT }
+        requires { Room self.old (answer_size * length piece.now) }
         ensures { reading_in self.new ≡ after_piece piece.now (reading_in self.old) }
     {
         for b in piece {
@@ -83,7 +82,7 @@ impl State {
 
     // A line that is open at the end of the input is the last one.
     fn last_line(&mut self)
-        requires { length (progress_in self.old).printed + answer_size ≤ OUT }
+        requires { Room self.old answer_size }
         ensures closes { progress_in self.new ≡ closed (reading_in self.old) }
         ensures room { length (progress_in self.new).printed ≤ length (progress_in self.old).printed + answer_size }
     {
@@ -94,7 +93,7 @@ impl State {
 
     // The input is at its end: the last line, then the marked numbers.
     pub fn finish(&mut self)
-        requires { length (progress_in self.old).printed + (answer_size + marked_size) ≤ OUT }
+        requires { Room self.old (answer_size + marked_size) }
         ensures { progress_in self.new ≡ finished (reading_in self.old) }
     {
         self.last_line();

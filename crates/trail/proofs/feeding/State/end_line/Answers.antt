@@ -14,7 +14,7 @@ pub returns-clause-ends : goal.returns-clause-ends
 unfolding closed
 returns-clause-ends c =
     let s = c.args.self.now in
-    let done = rw c.as_slice-line.ensures at c.do_line-reply.ensures in
+    let done = rw c.as_slice.ensures at c.do_line-reply.ensures in
     rw c.clear.ensures (ap closed (line_answered (progress_in s) (held s.line) done refl c.answer.ensures c.requires))
 
 pub returns-clause-room : goal.returns-clause-room
