@@ -1,8 +1,8 @@
 -- What is printed: a number in decimal, and the line that answers a line.
 -- Assumes nothing.
-use Rattle.std.specs.Prelude.{◌≡◌, cond, List, [], ◌∷◌, ◌++◌, ℕ, ◌+◌, ◌/◌, ◌%◌, min, max, ltb, length}
-use Rattle.std.proofs.lemmas.List.Edits.{sets}
+use Rattle.std.specs.Prelude.{◌≡◌, cond, List, [], ◌∷◌, ◌++◌, ℕ, ◌+◌, ◌/◌, ◌%◌, ltb, take}
 use Rattle.script.specs.Script.{space}
+use Rattle.script.specs.declared.print.Text.{Text}
 use Rattle.script.specs.declared.print.Reply.{Reply}
 use Rattle.script.specs.declared.print.Reply.TheVariants.{Bad, Verdict, Rounds}
 
@@ -26,7 +26,10 @@ reply_line Bad = 98 ∷ 97 ∷ 100 ∷ line_feed ∷ []
 reply_line (Verdict v) = decimal v ++ line_feed ∷ []
 reply_line (Rounds v r) = decimal v ++ (space ∷ []) ++ decimal r ++ line_feed ∷ []
 
--- the text was stored from `at` on as far as there is room, and ends at `end`; past the end nothing is stored
-pub record Printed (before : List ℕ) (at : ℕ) (text after : List ℕ) (end : ℕ) : Type 0 where
-  pub stored : after ≡ sets before at text
-  pub ends : end ≡ max at (min (at + length text) (length before))
+-- what a text holds
+abbrev pub held : {n : ℕ} → Text n → List ℕ
+held t = take t.len t.bytes
+
+-- more text stands behind what was there, as far as there is room
+pub record Printed {n : ℕ} (before : Text n) (text : List ℕ) (after : Text n) : Type 0 where
+  pub stored : held after ≡ take n (held before ++ text)

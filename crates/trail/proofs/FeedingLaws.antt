@@ -1,6 +1,6 @@
 -- Laws of an input in pieces: all that is written is the script's output.
 -- Assumes nothing.
-use Rattle.std.specs.Prelude.{◌≡◌, true, false, List, [], ◌∷◌, ◌++◌, ℕ, zero, suc, eqb, length, take, drop}
+use Rattle.std.specs.Prelude.{◌≡◌, true, false, List, [], ◌∷◌, ◌++◌, ℕ, eqb, length, take, drop}
 use Rattle.std.proofs.Math.Path.{refl}
 use Rattle.std.proofs.Common.{sym, ap, ◌∙◌, inl, append_assoc, append-nil, arith, take-append-drop, take_all, length-take-le}
 use Rattle.std.proofs.Math.Logic.{inr}
@@ -9,6 +9,7 @@ use Rattle.std.proofs.Math.Seq.{append_snoc}
 use Rattle.bits.specs.AllLaws.{either}
 use Rattle.script.specs.Script.{into, read_line}
 use Rattle.script.specs.ScriptLaws.{long_lines}
+use Rattle.script.specs.PrintLaws.{take_more}
 use Rattle.trail.specs.Lines.{line_done}
 use Rattle.script.specs.Print.{line_feed}
 use Rattle.trail.specs.Script.{lines, Progress, nothing_read, after_line, after_lines, with_marked, at_end, output}
@@ -84,11 +85,6 @@ kept_line l =
 after_kept : (l : List ℕ) (p : Progress) → after_line (take line_size l) p ≡ after_line l p
 unfolding after_line line_done
 after_kept l p = rw (kept_line l)
-
-take_more : (n : ℕ) (l m : List ℕ) → take n (take n l ++ m) ≡ take n (l ++ m)
-take_more zero l m = refl
-take_more (suc n) [] m = refl
-take_more (suc n) (a ∷ l) m = ap (λ (t : List ℕ). a ∷ t) (take_more n l m)
 
 -- ---- lines of which the first is open
 

@@ -1,6 +1,6 @@
 -- Laws of the line of the marked numbers.
 -- Assumes nothing.
-use Rattle.std.specs.Prelude.{◌≡◌, refl, Bool, true, false, List, [], ◌∷◌, ◌++◌, ℕ, zero, suc, ◌+◌, ◌-◌, ◌*◌, ◌≤◌, ◌<◌, length, ltb}
+use Rattle.std.specs.Prelude.{◌≡◌, refl, Bool, true, false, [], ◌∷◌, ◌++◌, ℕ, zero, suc, ◌+◌, ◌-◌, ◌*◌, ◌≤◌, ◌<◌, length, ltb}
 use Rattle.std.proofs.Common.{ap, ◌∙◌, inl, inr, append-nil, add-zero, add-suc, arith, add-one, length-append, ltb-true, ltb-false}
 use Rattle.std.proofs.Math.Seq.{append_snoc}
 use Rattle.bits.specs.AllLaws.{either}
@@ -9,7 +9,8 @@ use Rattle.model.specs.declared.Report.{Report}
 use Rattle.model.specs.Monitor.{next_marked, next_marked_of}
 use Rattle.marking.specs.FirstLaws.{First, first_of}
 use Rattle.script.specs.Print.{decimal, line_feed, Printed}
-use Rattle.script.specs.PrintLaws.{then, small}
+use Rattle.script.specs.declared.print.Text.{Text}
+use Rattle.script.specs.PrintLaws.{nothing_printed, then, small}
 use Rattle.trail.specs.Buffers.{marked_size}
 use Rattle.trail.specs.Marked.{marked_text, listed, is_marked, marked_line}
 
@@ -66,24 +67,24 @@ next r from n h e =
 
 -- ---- what is printed when n is the next
 
-pub record UpTo (r : Report) (l : List ℕ) (at : ℕ) (m : List ℕ) (e n : ℕ) : Type 0 where
-  pub text : Printed l at (listed (is_marked r) n) m e
+pub record UpTo {k : ℕ} (r : Report) (a b : Text k) (n : ℕ) : Type 0 where
+  pub text : Printed a (listed (is_marked r) n) b
   pub within : n ≤ numbers
   pub marked : n < numbers → is_marked r n ≡ true
 
-pub none_yet : (l : List ℕ) (at : ℕ) {r : Report} {n : ℕ} → IsNext r 0 n → UpTo r l at l at n
+pub none_yet : {k : ℕ} (a : Text k) {r : Report} {n : ℕ} → IsNext r 0 n → UpTo r a a n
 unfolding listed
-none_yet l at i = record { text = rw i.same (record { stored = refl; ends = omega arith }); within = i.within; marked = i.marked }
+none_yet a i = record { text = rw i.same (nothing_printed a); within = i.within; marked = i.marked }
 
-pub one_more_law : {r : Report} {l m m' m'' : List ℕ} {at e e' e'' n k : ℕ} → UpTo r l at m e n → n < numbers → Printed m e (32 ∷ []) m' e' → Printed m' e' (decimal n) m'' e'' → IsNext r (n + 1) k → UpTo r l at m'' e'' k
-one_more_law {r} {n = n} u h p q i =
+pub one_more_law : {l : ℕ} {r : Report} {a b c d : Text l} {n k : ℕ} → UpTo r a b n → n < numbers → Printed b (32 ∷ []) c → Printed c (decimal n) d → IsNext r (n + 1) k → UpTo r a d k
+one_more_law {r = r} {n = n} u h p q i =
     record {
       text = rw (i.same, listed_more (is_marked r) n (u.marked h), ← append_snoc (listed (is_marked r) n) 32 (decimal n)) (then (then u.text p) q);
       within = i.within;
       marked = i.marked;
     }
 
-pub all_listed : {r : Report} {l m m' m'' : List ℕ} {from at e e' n : ℕ} → Printed l from marked_text m at → UpTo r m at m' e n → numbers ≤ n → Printed m' e (line_feed ∷ []) m'' e' → Printed l from (marked_line r) m'' e'
+pub all_listed : {l : ℕ} {r : Report} {o a b c : Text l} {n : ℕ} → Printed o marked_text a → UpTo r a b n → numbers ≤ n → Printed b (line_feed ∷ []) c → Printed o (marked_line r) c
 unfolding marked_line
 all_listed {n = n} p u h q = let z : n ≡ numbers = omega (arith, u.within) in rw (← z) (then (then p u.text) q)
 

@@ -1,12 +1,13 @@
--- What stands in the program's buffers. Of `line` what is kept of the open line counts, of `out` what is not written yet; the rest of both is free.
+-- What stands in the program's memory: what is kept of the open line, and what is printed and not written yet.
 -- Assumes nothing.
-use Rattle.std.specs.Prelude.{◌≡◌, List, ℕ, ◌*◌, take}
+use Rattle.std.specs.Prelude.{◌≡◌, List, ℕ, ◌+◌, ◌*◌, ◌≤◌, length, take}
 use Rattle.rows.specs.Size.{numbers}
-use Rattle.model.specs.State.{memory}
-use Rattle.tallies.specs.Counts.{records_in}
+use Rattle.script.specs.Print.{held}
 use Rattle.trail.specs.Script.{Progress, at_end}
+use Rattle.trail.specs.Lines.{memory_of, tallies_of}
 use Rattle.trail.specs.Feeding.{Reading, nothing_fed, after_piece, finished, emptied}
 use Rattle.trail.specs.declared.feeding.State.{State}
+use Rattle.trail.specs.declared.feeding.TheConstants.{OUT}
 
 -- the most bytes that answer a line, and that the line of marked numbers has
 abbrev pub answer_size : ℕ
@@ -16,10 +17,14 @@ abbrev pub marked_size : ℕ
 marked_size = 8 * numbers
 
 abbrev pub progress_in : State → Progress
-progress_in s = record { printed = take s.used s.out; order = s.monitor.order; memory = memory s.monitor.bytes s.monitor.words; tallies = records_in s.monitor.counts }
+progress_in s = record { printed = held s.out; order = s.monitor.order; memory = memory_of s.monitor; tallies = tallies_of s.monitor }
 
 abbrev pub reading_in : State → Reading
-reading_in s = record { line = take s.filled s.line; progress = progress_in s }
+reading_in s = record { line = held s.line; progress = progress_in s }
+
+-- there is room for so many bytes of answers more
+abbrev pub Room : State → ℕ → Type 0
+Room s k = length (progress_in s).printed + k ≤ OUT
 
 -- so many bytes of the input buffer were fed, and what they printed is no longer held
 abbrev pub Fed : List ℕ → State → State → ℕ → Type 0

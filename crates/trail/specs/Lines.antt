@@ -16,15 +16,22 @@ use Rattle.script.specs.declared.print.Reply.{Reply}
 use Rattle.script.specs.declared.print.Reply.TheVariants as reply
 use Rattle.trail.specs.declared.lines.Monitor.{Monitor}
 
+-- what a monitor keeps, as the model has it
+abbrev pub memory_of : Monitor → Memory
+memory_of m = memory m.bytes m.words
+
+abbrev pub tallies_of : Monitor → List Tally
+tallies_of m = records_in m.counts
+
 pub record LineOutcome : Type 0 where
   pub reply : Reply
   pub order : Order
   pub memory : Memory
   pub tallies : List Tally
 
--- what a contract says of an answer, and of what is left: the order, the bytes, the words and the counts
+-- what a contract says of an answer, and of what is left
 abbrev pub leaves : Reply → Monitor → LineOutcome
-leaves r m = record { reply = r; order = m.order; memory = memory m.bytes m.words; tallies = records_in m.counts }
+leaves r m = record { reply = r; order = m.order; memory = memory_of m; tallies = tallies_of m }
 
 unfoldable pub is_spread : Call → Bool
 is_spread Start = false

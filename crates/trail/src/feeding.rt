@@ -1,11 +1,11 @@
 // A script whose input comes in pieces. Each is fed as it comes, and what it prints stands in a buffer until it is written.
 ghost use Rattle.std.specs.Prelude.{◌+◌, ◌*◌, ◌≤◌, ◌≡◌, length};
-ghost use Rattle.trail.specs.declared.feeding.TheConstants.{KEPT, OUT};
+ghost use Rattle.trail.specs.Buffers.{answer_size, marked_size, progress_in, reading_in, Room};
 ghost use Rattle.trail.specs.Feeding.{nothing_fed, ended, after_byte, after_piece, closed, finished, emptied};
 
 use crate::lines::Monitor;
 use crate::marked;
-use script::print;
+use script::print::Text;
 
 // How many bytes of a line are kept: as many as settle what it means.
 pub const KEPT: usize = 128;
@@ -14,67 +14,52 @@ pub const KEPT: usize = 128;
 pub const OUT: usize = 131072;
 
 // Where the reading stands.
-// By hand: the buffers are arrays with their lengths beside them, since there is no heap for a `Vec`.
 #[derive(Drop)]
 pub struct State {
     monitor: Monitor,
-    // What is kept of the open line, and how much that is.
-    line: [u8; KEPT],
-    filled: usize,
-    // What is printed and not written yet, and how much that is.
-    out: [u8; OUT],
-    used: usize,
-    ghost line_size: { length line ≡ KEPT },
-    ghost out_size: { length out ≡ OUT },
-    ghost line_within: { filled ≤ KEPT },
-    ghost out_within: { used ≤ OUT },
+    // What is kept of the open line.
+    line: Text<KEPT>,
+    // What is printed and not written yet.
+    out: Text<OUT>,
 }
 
 impl State {
-    ghost use Rattle.trail.specs.Buffers.{answer_size, marked_size, progress_in, reading_in};
-
     // Before the first piece.
     pub fn new() -> State
         ensures { reading_in result ≡ nothing_fed }
     {
         let monitor = Monitor::new();
-        State {
-            monitor,
-            line: [0; KEPT],
-            filled: 0,
-            out: [0; OUT],
-            used: 0,
-        }
+        let line = Text::new();
+        let out = Text::new();
+        State { monitor, line, out }
     }
 
     // A line is done, and its answer printed behind those before it.
     fn end_line(&mut self)
-        requires { self.old.used + answer_size ≤ OUT }
+        requires { Room self.old answer_size }
         ensures ends { reading_in self.new ≡ ended (reading_in self.old) }
-        ensures room { self.new.used ≤ self.old.used + answer_size }
+        ensures room { length (progress_in self.new).printed ≤ length (progress_in self.old).printed + answer_size }
     {
-        let line = &self.line[..self.filled];
-        let reply = self.monitor.do_line(line);
-        self.filled = 0;
-        self.used = print::answer(&mut self.out, self.used, reply);
+        let reply = self.monitor.do_line(self.line.as_slice());
+        self.line.clear();
+        self.out.answer(reply);
     }
 
     fn feed_byte(&mut self, b: u8)
-        requires { self.old.used + answer_size ≤ OUT }
+        requires { Room self.old answer_size }
         ensures feeds { reading_in self.new ≡ after_byte b (reading_in self.old) }
-        ensures room { self.new.used ≤ self.old.used + answer_size }
+        ensures room { length (progress_in self.new).printed ≤ length (progress_in self.old).printed + answer_size }
     {
         if b == b'\n' {
             self.end_line();
-        } else if self.filled < KEPT {
-            self.line[self.filled] = b;
-            self.filled += 1;
+        } else {
+            self.line.byte(b);
         }
     }
 
     // Feeds a piece. Its answers fit: each answers a line, which has at least its line feed, with at most eight bytes.
     pub fn feed(&mut self, piece: &[u8])
-        requires { self.old.used + answer_size * length piece.now ≤ OUT }
+        requires { Room self.old (answer_size * length piece.now) }
         ensures { reading_in self.new ≡ after_piece piece.now (reading_in self.old) }
     {
         for b in piece {
@@ -83,37 +68,36 @@ impl State {
     }
 
     // What was printed has been written.
-    #[tactic(auto, unfolding(crate::specs::Feeding::emptied))]
     pub fn empty(&mut self)
         ensures { reading_in self.new ≡ emptied (reading_in self.old) }
     {
-        self.used = 0;
+        self.out.clear();
     }
 
     pub fn printed(&self) -> &[u8]
         ensures { result.now ≡ (progress_in self.now).printed }
     {
-        &self.out[..self.used]
+        self.out.as_slice()
     }
 
     // A line that is open at the end of the input is the last one.
     fn last_line(&mut self)
-        requires { self.old.used + answer_size ≤ OUT }
+        requires { Room self.old answer_size }
         ensures closes { progress_in self.new ≡ closed (reading_in self.old) }
-        ensures room { self.new.used ≤ self.old.used + answer_size }
+        ensures room { length (progress_in self.new).printed ≤ length (progress_in self.old).printed + answer_size }
     {
-        if self.filled > 0 {
+        if !self.line.as_slice().is_empty() {
             self.end_line();
         }
     }
 
     // The input is at its end: the last line, then the marked numbers.
     pub fn finish(&mut self)
-        requires { self.old.used + (answer_size + marked_size) ≤ OUT }
+        requires { Room self.old (answer_size + marked_size) }
         ensures { progress_in self.new ≡ finished (reading_in self.old) }
     {
         self.last_line();
         let report = self.monitor.report();
-        self.used = marked::print(&mut self.out, self.used, report);
+        marked::print(&mut self.out, report);
     }
 }

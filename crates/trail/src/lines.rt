@@ -1,13 +1,11 @@
 // What a line does.
 ghost use Rattle.std.specs.Prelude.{◌≡◌};
 ghost use Rattle.rows.specs.Size.{present};
-ghost use Rattle.model.specs.State.{memory};
 ghost use Rattle.model.specs.Monitor.{report};
 ghost use Rattle.model.specs.Tallies.{zeroed};
-ghost use Rattle.tallies.specs.Counts.{records_in};
 ghost use Rattle.script.specs.Script.{no_order};
 ghost use Rattle.trail.specs.Script.{zeros};
-ghost use Rattle.trail.specs.Lines.{leaves, reply_to, asked, started_with, line_done};
+ghost use Rattle.trail.specs.Lines.{memory_of, tallies_of, leaves, reply_to, asked, started_with, line_done};
 
 use levels::Order;
 use model::{Call, Report};
@@ -29,7 +27,7 @@ pub struct Monitor {
 impl Monitor {
     // Before the first line. The order is all zero before the first granted start.
     pub fn new() -> Monitor
-        ensures { (result.order ≡ no_order) × (memory result.bytes result.words ≡ zeros) × (records_in result.counts ≡ zeroed present) }
+        ensures { (result.order ≡ no_order) × (memory_of result ≡ zeros) × (tallies_of result ≡ zeroed present) }
     {
         Monitor {
             bytes: [0; records::BYTES],
@@ -44,14 +42,14 @@ impl Monitor {
     }
 
     pub fn report(&self) -> Report
-        ensures { result ≡ report self.now.order (memory self.now.bytes self.now.words) }
+        ensures { result ≡ report self.now.order (memory_of self.now) }
     {
         marking::report(&self.bytes, &self.words, self.order)
     }
 
     #[tactic(auto, unfolding(crate::specs::Lines::started_with, crate::specs::Lines::answered))]
     fn start(&mut self, order: Order) -> Reply
-        ensures { leaves result self.new ≡ started_with (memory self.old.bytes self.old.words) (records_in self.old.counts) self.old.order order }
+        ensures { leaves result self.new ≡ started_with (memory_of self.old) (tallies_of self.old) self.old.order order }
     {
         let answer = calls::perform(
             &mut self.bytes,
@@ -69,14 +67,13 @@ impl Monitor {
 
     #[tactic(auto, unfolding(crate::specs::Lines::asked, crate::specs::Lines::answered))]
     fn ask(&mut self, call: Call) -> Reply
-        ensures { leaves result self.new ≡ asked (memory self.old.bytes self.old.words) (records_in self.old.counts) self.old.order call }
+        ensures { leaves result self.new ≡ asked (memory_of self.old) (tallies_of self.old) self.old.order call }
     {
-        let order = self.order;
         let answer = calls::perform(
             &mut self.bytes,
             &mut self.words,
             &mut self.counts,
-            order,
+            self.order,
             table::TABLE,
             call,
         );
@@ -85,7 +82,7 @@ impl Monitor {
 
     #[tactic(auto, unfolding(crate::specs::Lines::line_done, crate::specs::Lines::done_by))]
     pub fn do_line(&mut self, line: &[u8]) -> Reply
-        ensures { leaves result self.new ≡ line_done (memory self.old.bytes self.old.words) (records_in self.old.counts) self.old.order line.now }
+        ensures { leaves result self.new ≡ line_done (memory_of self.old) (tallies_of self.old) self.old.order line.now }
     {
         match script::read_line(line) {
             None => Reply::Bad,

@@ -6,7 +6,7 @@ mod feeding;
 mod lines;
 mod marked;
 
-ghost use Rattle.std.specs.Prelude.{ℕ, ◌*◌, ◌≤◌, ◌≡◌, IfOk, MatchResult, OnOk, length};
+ghost use Rattle.std.specs.Prelude.{ℕ, ◌*◌, ◌≤◌, ◌≡◌, [], IfOk, MatchResult, OnOk, length};
 ghost use Rattle.trail.specs.declared.feeding.TheConstants.{OUT};
 ghost use Rattle.trail.specs.Feeding.{nothing_fed};
 ghost use Rattle.trail.specs.Buffers.{answer_size, progress_in, reading_in, Fed, SomeInput, SomeScript};
@@ -58,7 +58,7 @@ impl Streams {
 
 // Reads a piece, feeds it and writes its answers. It answers how long the piece was: nothing is fed at the end of the input.
 fn read_piece(streams: Streams, input: &mut [u8], state: &mut State) -> Result<usize, Failed>
-    requires { (answer_size * length input.old ≤ OUT) × (state.old.used ≡ 0) }
+    requires { (answer_size * length input.old ≤ OUT) × ((progress_in state.old).printed ≡ []) }
     ensures { MatchResult result (Fed input.new state.old state.new) (λ _. (n : ℕ) × Fed input.new state.old state.new n) }
 {
     let n = streams.read(input)?;

@@ -3,18 +3,18 @@ ghost use Rattle.script.specs.Print.{Printed};
 ghost use Rattle.trail.specs.Marked.{marked_line};
 
 use model::Report;
-use script::print;
+use script::print::Text;
 
 // Each marked number, rising, a space before it.
-pub fn print(out: &mut [u8], at: usize, report: Report) -> usize
-    ensures { Printed out.old at (marked_line report) out.new result }
+pub fn print<const N: usize>(out: &mut Text<N>, report: Report)
+    ensures { Printed out.old (marked_line report) out.new }
 {
-    let mut end = print::text(out, at, b"marked");
+    out.text(b"marked");
     let mut n = marking::next_marked(report, 0);
     while n < rows::NUMBERS {
-        end = print::byte(out, end, b' ');
-        end = print::number(out, end, n as u8);
+        out.byte(b' ');
+        out.number(n as u8);
         n = marking::next_marked(report, n + 1);
     }
-    print::byte(out, end, b'\n')
+    out.byte(b'\n');
 }

@@ -1,12 +1,12 @@
 use Rattle.std.proofs.Common.{arith}
-use Rattle.trail.proofs.BufferLaws.{no_input, input_more, some_unused}
+use Rattle.trail.proofs.BufferLaws.{no_input, input_more, some_written}
 use Rattle.trail.proofs.read_all.Goals as goal
 
 pub loop-init : goal.loop-init
 loop-init c = no_input c.requires.1
 
 pub read_piece-requires : goal.read_piece-requires
-read_piece-requires c = (omega arith, some_unused c.loop.state c.loop.invariant)
+read_piece-requires c = (omega arith, some_written c.loop.invariant)
 
 pub loop-preserved : goal.loop-preserved
 loop-preserved c = input_more _ c.loop.invariant c.in_ok-read_piece.ensures

@@ -4,7 +4,7 @@ use Rattle.trail.proofs.MarkedLaws.{UpTo}
 use Rattle.trail.proofs.marked.print.Given as goal
 
 abbrev pub invariant-loop-n : goal.invariant-loop-n
-invariant-loop-n l = UpTo l.report l.initial.out l.initial.end l.out l.end l.n
+invariant-loop-n g l = UpTo l.report l.initial.out l.out l.n
 
 abbrev pub decreases-loop-n : goal.decreases-loop-n
-decreases-loop-n l = numbers - l.n
+decreases-loop-n g l = numbers - l.n

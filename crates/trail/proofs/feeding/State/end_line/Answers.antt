@@ -1,4 +1,5 @@
-use Rattle.std.proofs.Common.{refl, ap, take, [], arith}
+use Rattle.std.proofs.Common.{refl, ap, []}
+use Rattle.script.specs.Print.{held}
 use Rattle.script.specs.PrintLaws.{reply_within}
 use Rattle.trail.specs.Script.{Progress}
 use Rattle.trail.specs.Feeding.{Reading}
@@ -13,7 +14,8 @@ pub returns-clause-ends : goal.returns-clause-ends
 unfolding closed
 returns-clause-ends c =
     let s = c.args.self.now in
-    ap closed (line_answered (progress_in s) (take s.filled s.line) c.do_line-reply.ensures refl c.answer-self.ensures (omega (arith, s.out_size)))
+    let done = rw c.as_slice.ensures at c.do_line-reply.ensures in
+    rw c.clear.ensures (ap closed (line_answered (progress_in s) (held s.line) done refl c.answer.ensures c.requires))
 
 pub returns-clause-room : goal.returns-clause-room
-returns-clause-room c = omega (arith, reply_within _ c.answer-self.ensures)
+returns-clause-room c = reply_within _ c.answer.ensures

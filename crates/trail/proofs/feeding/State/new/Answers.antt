@@ -4,4 +4,4 @@ use Rattle.trail.proofs.feeding.State.new.Goals as goal
 
 pub returns : goal.returns
 unfolding nothing_fed nothing_read
-returns c = let m = c.new-monitor.ensures in rw (m.0, m.1, m.2)
+returns c = let m = c.new-monitor.ensures in rw (m.0, m.1, m.2, c.new-line.ensures, c.new-out.ensures)

@@ -2,7 +2,7 @@
 -- Assumes nothing.
 use Rattle.std.proofs.Common.{take}
 use Rattle.script.specs.Print.{Printed}
-use Rattle.script.proofs.print.text.Given as goal
+use Rattle.script.proofs.print.Text.text.Given as goal
 
 abbrev pub invariant-loop-b : goal.invariant-loop-b
-invariant-loop-b l = Printed l.initial.out l.at (take l.b-index l.bytes) l.out l.end
+invariant-loop-b g l = Printed l.initial.self (take l.b-index l.bytes) l.self
