@@ -109,15 +109,16 @@ trait Element: Copy {
 
     ghost rest: { List Self → List Self };
 
+    // How many records a list holds.
     fn records_in(list: &[Self]) -> usize
         ensures { result ≡ length (held list.now) };
 
-    // All records of a list of the right length.
+    // Zeroes all records of a list of the right length.
     fn zero(list: &mut [Self])
         requires { length (held list.old) ≡ numbers }
         ensures { (held list.new ≡ zeroed present) × (rest list.new ≡ rest list.old) };
 
-    // The record of a number.
+    // Raises the record of a number by a verdict.
     fn raise_at(list: &mut [Self], number: usize, verdict: Verdict)
         requires { number < length (held list.old) }
         ensures { (held list.new ≡ raised_at number (number_of verdict) (held list.old)) × (rest list.new ≡ rest list.old) };
@@ -171,6 +172,7 @@ impl Element for u32 {
 }
 
 // Enters a call in its list: what begins anew zeroes it first, then one record is raised. A list of another length stays as it is.
+// By hand: each function here asks for InList, since as an invariant of Entry it would be a part of what `with_word` of calls/specs makes.
 #[tactic(auto, using(crate::proofs::EntryLaws::unfit_kept, crate::proofs::EntryLaws::fit_entered), unfolding(model::specs::Tallies::zeroed))]
 fn enter_in<E: Element>(list: &mut [E], entry: Entry)
     requires { InList entry }
