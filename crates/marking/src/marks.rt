@@ -1,9 +1,9 @@
 // The marks of records.
-ghost use Rattle.std.specs.Prelude.{◌≡◌, ◌&&◌, List, ℕ, ◌<◌};
+ghost use Rattle.std.specs.Prelude.{◌≡◌, ◌&&◌, List, ℕ, ◌+◌, ◌≤◌, ◌<◌};
 ghost use Rattle.bits.specs.All.{any_b};
 ghost use Rattle.rows.specs.Size.{numbers};
 ghost use Rattle.records.specs.Records.{BytesLent};
-ghost use Rattle.sets.specs.Sets.{has};
+ghost use Rattle.sets.specs.Sets.{has, in_word};
 ghost use Rattle.model.specs.State.{memory, marked, has_flow};
 ghost use Rattle.model.specs.Effects.{mark_one, mark_where, object_of, effect, mark_outside, mark_thing};
 
@@ -23,14 +23,23 @@ fn mark_one(bytes: &mut [u8], x: u16)
     }
 }
 
+// The numbers of a word are marked.
+fn mark_word(bytes: &mut [u8], word: u64, first: u8)
+    requires { BytesLent bytes.old × (first + 64 ≤ numbers) }
+    ensures { (ws : List ℕ) → memory bytes.new ws ≡ mark_where (in_word word first) (memory bytes.old ws) }
+{
+    for x in sets::numbers_of(word, first) {
+        mark_one(bytes, x as u16);
+    }
+}
+
 // The numbers of a set are marked.
 pub fn mark_set(bytes: &mut [u8], set: Set)
     requires { BytesLent bytes.old }
     ensures { (ws : List ℕ) → memory bytes.new ws ≡ mark_where (has set) (memory bytes.old ws) }
 {
-    for x in set {
-        mark_one(bytes, x as u16);
-    }
+    mark_word(bytes, set.low, 0);
+    mark_word(bytes, set.high, 64);
 }
 
 // x is an object of the driver.

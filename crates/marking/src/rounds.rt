@@ -4,7 +4,7 @@ ghost use Rattle.bits.specs.All.{any_b};
 ghost use Rattle.rows.specs.Size.{row_size, numbers, WordsLent};
 ghost use Rattle.rows.specs.Rows.{add_cell};
 ghost use Rattle.records.specs.Records.{BytesLent};
-ghost use Rattle.sets.specs.Sets.{last, has, set_of, TableLent};
+ghost use Rattle.sets.specs.Sets.{last, has, set_of, in_word, TableLent};
 ghost use Rattle.model.specs.State as state;
 ghost use Rattle.model.specs.State.{memory};
 ghost use Rattle.marking.specs.Rounds.{OwnedRows, Driven, Put, own_row, round_set, spread_sets};
@@ -41,14 +41,23 @@ fn own_row(bytes: &[u8], owned: &mut [u64], x: u8)
     }
 }
 
+// The same for the numbers of a word.
+fn own_word(bytes: &[u8], owned: &mut [u64], word: u64, first: u8)
+    requires { BytesLent bytes.now × OwnedRows owned.old × Driven bytes.now × (first + 64 ≤ numbers) }
+    ensures { Put row_size bytes.now (in_word word first) owned.old owned.new }
+{
+    for x in sets::numbers_of(word, first) {
+        own_row(bytes, owned, x);
+    }
+}
+
 // The same for the numbers of a set.
 fn own_rows(bytes: &[u8], owned: &mut [u64], set: Set)
     requires { BytesLent bytes.now × OwnedRows owned.old × Driven bytes.now }
     ensures { Put row_size bytes.now (has set) owned.old owned.new }
 {
-    for x in set {
-        own_row(bytes, owned, x);
-    }
+    own_word(bytes, owned, set.low, 0);
+    own_word(bytes, owned, set.high, 64);
 }
 
 // What a round marks of the unmarked things in use: those that a source has a flow to, and then the objects of the sources and of these.
