@@ -8,5 +8,5 @@ use Rattle.marking.proofs.marks.mark_set.Goals as goal
 pub returns : goal.returns
 returns c ws =
     let s = c.args.set in
-    c.mark_word-2.ensures ws ∙ ap (mark_where (in_word s.high 64)) (c.mark_word.ensures ws)
+    c.mark_word-2.ensures.0 ws ∙ ap (mark_where (in_word s.high 64)) (c.mark_word.ensures.0 ws)
     ∙ where_then _ _ _ _ c.requires (has_words s (fits (search rules) (search rules)))

@@ -1,5 +1,6 @@
 use Rattle.std.proofs.Common.{sym, ◌∙◌, rules}
 use Rattle.sets.specs.Sets.{in_word}
+use Rattle.sets.specs.SetLaws.{word_within}
 use Rattle.model.specs.State.{memory}
 use Rattle.marking.specs.MarksLaws.{walk_next, walk_end}
 use Rattle.marking.proofs.marks.mark_word.Goals as goal
@@ -12,7 +13,7 @@ loop-x-preserved c ws =
     walk_next (memory l.bytes ws) (in_word s.rest s.first) (in_word t.rest t.first) c.in-Some.x (search rules) c.in-Some.ensures.steps (c.mark_one.ensures ws) ∙ l.invariant ws
 
 pub returns : goal.returns
-returns c ws =
+returns c =
     let l = c.loop-x in
     let s = l.x-iterator in
-    sym (walk_end (memory l.bytes ws) (in_word s.rest s.first) c.in-None.ensures.steps) ∙ l.invariant ws
+    (λ ws. sym (walk_end (memory l.bytes ws) (in_word s.rest s.first) c.in-None.ensures.steps) ∙ l.invariant ws, word_within _ _ (search rules) c.requires.1)

@@ -11,6 +11,6 @@ pub returns : goal.returns
 returns c d y l =
     let a = c.args in
     let p = puts row_size a.bytes.now d y in
-    c.own_word-2.ensures d y l
-    ∙ ap (λ (b : Bool). b || some_of numbers p (in_word a.set.high 64)) (c.own_word.ensures d y l)
+    c.own_word-2.ensures.0 d y l
+    ∙ ap (λ (b : Bool). b || some_of numbers p (in_word a.set.high 64)) (c.own_word.ensures.0 d y l)
     ∙ some_words p (cell row_size a.owned.now d y) a.set (fits (search rules) (search rules))

@@ -2,6 +2,7 @@ use Rattle.std.proofs.Common.{Bool, ◌||◌, List, ℕ, sym, ap, ◌∙◌, ari
 use Rattle.rows.specs.Size.{row_size, numbers}
 use Rattle.rows.specs.Rows.{cell}
 use Rattle.sets.specs.Sets.{in_word}
+use Rattle.sets.specs.SetLaws.{word_within}
 use Rattle.sets.specs.WalkLaws.{some_of}
 use Rattle.sets.specs.NumbersLaws.{some_taken, some_end}
 use Rattle.marking.specs.Rounds.{puts}
@@ -21,7 +22,9 @@ loop-x-preserved c d y b =
     ∙ some_taken (in_word s.rest s.first) (in_word t.rest t.first) x k (puts row_size bs d y) (cell row_size l.owned d y) ∙ l.invariant d y b
 
 pub returns : goal.returns
-returns c d y b =
+returns c =
     let l = c.loop-x in
-    let s = l.x-iterator in
-    sym (some_end (in_word s.rest s.first) c.in-None.ensures.steps (puts row_size c.args.bytes.now d y) (cell row_size l.owned d y)) ∙ l.invariant d y b
+    let s = l.x-iterator in (
+      λ d y b. sym (some_end (in_word s.rest s.first) c.in-None.ensures.steps (puts row_size c.args.bytes.now d y) (cell row_size l.owned d y)) ∙ l.invariant d y b,
+      word_within _ _ (search rules) c.requires.3,
+    )
