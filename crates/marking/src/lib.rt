@@ -1,4 +1,5 @@
 // Marking: mark and step, the spread, and the report of what is marked.
+// By hand: bytes, words and order stay apart, and `BytesLent` stands in each contract, since the memory is lent as slices of C's.
 #![tactic(auto)]
 
 mod marks;
