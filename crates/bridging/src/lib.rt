@@ -1,4 +1,5 @@
 // What a deletion keeps of the trail: each thing that fed the object, and its driver, goes on to feed each thing that the object fed.
+// By hand: bytes and words stay apart, and `BytesLent` and `WordsLent` stand in each contract, since the memory is lent as slices of C's.
 #![tactic(auto)]
 
 ghost use Rattle.std.specs.Prelude.{◌≡◌, true, ◌<◌};

@@ -1,4 +1,5 @@
 // Marking: mark and step, the spread, and the report of what is marked.
+// By hand: bytes, words and order stay apart, and `BytesLent` stands in each contract, since the memory is lent as slices of C's.
 #![tactic(auto)]
 
 mod marks;
@@ -8,7 +9,7 @@ ghost use Rattle.std.specs.Prelude.{◌≡◌, List, ℕ, ◌<◌};
 ghost use Rattle.bits.specs.Bit.{bit};
 ghost use Rattle.rows.specs.Size.{present, numbers};
 ghost use Rattle.levels.specs.declared.Order.{Order};
-ghost use Rattle.records.specs.Records.{record_size, BytesLent, field, driver};
+ghost use Rattle.records.specs.Records.{record_size, BytesLent, field};
 ghost use Rattle.model.specs.Ready.{Ready};
 ghost use Rattle.model.specs.Verdicts.{number_of};
 ghost use Rattle.model.specs.State.{memory};
@@ -21,24 +22,16 @@ ghost use Rattle.model.specs.Monitor.{no_report, next_marked, marked_report};
 
 use levels::Order;
 use model::{Report, Verdict};
-use records::{DRIVER, FREE, KIND, MARKS, RECORD_SIZE};
+use records::{FREE, KIND, MARKS, RECORD_SIZE};
 use rounds::Spread;
 use rows::NUMBERS;
 
 // Byte f of the record of x. The bytes are lent, so their length needs no test.
-fn byte(bytes: &[u8], x: u16, f: u16) -> u8
+fn byte(bytes: &[u8], x: usize, f: u16) -> u8
     requires { BytesLent bytes.now × (x < numbers) × (f < record_size) }
     ensures { result ≡ field bytes.now x f }
 {
-    bytes[RECORD_SIZE * (x as usize) + (f as usize)]
-}
-
-// The driver that the record of x names.
-fn driver_of(bytes: &[u8], x: u16) -> u8
-    requires { BytesLent bytes.now × (x < numbers) }
-    ensures { result ≡ driver bytes.now x }
-{
-    byte(bytes, x, DRIVER)
+    bytes[RECORD_SIZE * x + (f as usize)]
 }
 
 // A report of nothing, with why.
@@ -91,6 +84,7 @@ fn lowest_from(w: u64, i: u16) -> Option<u16>
 }
 
 // The lowest marked number of a report at or above `from`, and NUMBERS where there is none.
+// By hand: a number and no Option, since `tupehiwo_next_marked` hands this answer to C.
 pub fn next_marked(report: Report, from: u16) -> u16
     ensures { result ≡ next_marked report from }
 {

@@ -1,25 +1,36 @@
 // The marks of records.
-ghost use Rattle.std.specs.Prelude.{◌≡◌, ◌&&◌, List, ℕ, ◌<◌};
+ghost use Rattle.std.specs.Prelude.{◌≡◌, ◌&&◌, List, ℕ, ◌+◌, ◌≤◌, ◌<◌};
 ghost use Rattle.bits.specs.All.{any_b};
 ghost use Rattle.rows.specs.Size.{numbers};
 ghost use Rattle.records.specs.Records.{BytesLent};
-ghost use Rattle.sets.specs.Sets.{has};
+ghost use Rattle.sets.specs.Sets.{Within, has, in_word};
 ghost use Rattle.model.specs.State.{memory, marked, has_flow};
 ghost use Rattle.model.specs.Effects.{mark_one, mark_where, object_of, effect, mark_outside, mark_thing};
 
-use crate::{byte, driver_of};
-use records::{KIND, MARKS, OBJECT, RECORD_SIZE};
+use crate::byte;
+use records::{DRIVER, KIND, MARKS, OBJECT, RECORD_SIZE, RECORDS};
 use rows::NUMBERS;
 use sets::Set;
 
 // x is marked. A mark that is there stays as it is.
-fn mark_one(bytes: &mut [u8], x: u16)
+fn mark_one(bytes: &mut [u8], x: usize)
     requires { BytesLent bytes.old × (x < numbers) }
     ensures { (ws : List ℕ) → memory bytes.new ws ≡ mark_one x (memory bytes.old ws) }
 {
-    let at = RECORD_SIZE * (x as usize) + (MARKS as usize);
+    let at = RECORD_SIZE * x + (MARKS as usize);
     if bytes[at] == 0 {
         bytes[at] = 1;
+    }
+}
+
+// The numbers of a word are marked.
+// By hand: word by word, since one walk through both words of a set made a spread up to a sixth slower.
+fn mark_word(bytes: &mut [u8], word: u64, first: u8)
+    requires { BytesLent bytes.old × (first + 64 ≤ numbers) }
+    ensures { ((ws : List ℕ) → memory bytes.new ws ≡ mark_where (in_word word first) (memory bytes.old ws)) × Within (in_word word first) }
+{
+    for x in sets::numbers_of(word, first) {
+        mark_one(bytes, x as usize);
     }
 }
 
@@ -28,17 +39,16 @@ pub fn mark_set(bytes: &mut [u8], set: Set)
     requires { BytesLent bytes.old }
     ensures { (ws : List ℕ) → memory bytes.new ws ≡ mark_where (has set) (memory bytes.old ws) }
 {
-    for x in set {
-        mark_one(bytes, x as u16);
-    }
+    mark_word(bytes, set.low, 0);
+    mark_word(bytes, set.high, 64);
 }
 
 // x is an object of the driver.
-fn is_object_of(bytes: &[u8], driver: u16, x: u16) -> bool
+fn is_object_of(bytes: &[u8], driver: u16, x: usize) -> bool
     requires { BytesLent bytes.now × (x < numbers) }
     ensures { (ws : List ℕ) → result ≡ object_of (memory bytes.now ws) driver x }
 {
-    byte(bytes, x, KIND) == OBJECT && driver_of(bytes, x) as u16 == driver
+    byte(bytes, x, KIND) == OBJECT && byte(bytes, x, DRIVER) as u16 == driver
 }
 
 // The objects of a driver are marked.
@@ -46,7 +56,7 @@ fn mark_objects(bytes: &mut [u8], driver: u16)
     requires { BytesLent bytes.old }
     ensures { (ws : List ℕ) → memory bytes.new ws ≡ mark_where (object_of (memory bytes.old ws) driver) (memory bytes.old ws) }
 {
-    for x in 0..NUMBERS {
+    for x in 0..RECORDS {
         if is_object_of(bytes, driver, x) {
             mark_one(bytes, x);
         }
@@ -70,7 +80,7 @@ pub fn mark_thing(bytes: &mut [u8], x: u16)
     requires { BytesLent bytes.old × (x < numbers) }
     ensures { (ws : List ℕ) → memory bytes.new ws ≡ effect (mark_thing x) (memory bytes.old ws) }
 {
-    mark_one(bytes, x);
+    mark_one(bytes, x as usize);
     if records::is_task(bytes, x) {
         mark_objects(bytes, x);
     }
@@ -82,7 +92,7 @@ pub fn is_fed(bytes: &[u8], words: &[u64], x: u16) -> bool
     ensures { result ≡ any_b numbers (λ y. marked (memory bytes.now words.now) y && has_flow (memory bytes.now words.now) y x) }
 {
     for y in 0..NUMBERS {
-        if (byte(bytes, y, MARKS) != 0) & rows::has(words, y, x) {
+        if (byte(bytes, y as usize, MARKS) != 0) & rows::has(words, y, x) {
             return true;
         }
     }

@@ -3,18 +3,19 @@ ghost use Rattle.std.specs.Prelude.{◌≡◌, true, ◌+◌, ◌/◌, ◌%◌, 
 ghost use Rattle.bits.specs.All.{any_b};
 ghost use Rattle.rows.specs.Size.{row_size, numbers, WordsLent};
 ghost use Rattle.rows.specs.Rows.{add_cell};
-ghost use Rattle.records.specs.Records.{BytesLent};
-ghost use Rattle.sets.specs.Sets.{last, has, set_of, TableLent};
+ghost use Rattle.records.specs.Records.{BytesLent, driver, is_object};
+ghost use Rattle.sets.specs.Sets.{last, Within, has, set_of, in_word, TableLent};
 ghost use Rattle.model.specs.State as state;
 ghost use Rattle.model.specs.State.{memory};
 ghost use Rattle.marking.specs.Rounds.{OwnedRows, Driven, Put, own_row, round_set, spread_sets};
 
-use crate::{byte, driver_of};
-use records::{KIND, OBJECT, RECORDS};
+use crate::byte;
+use records::{DRIVER, KIND, OBJECT, RECORDS};
 use rows::ROW_WORDS;
 use sets::Set;
 
 // The words of the rows of the drivers' objects, one row for each number, and of one more for the drivers themselves.
+// By hand: words and no array of rows, since `sets::rows_of` reads these rows as it reads the lent table of flows.
 const OWNED: usize = ROW_WORDS * (RECORDS + 1);
 
 // Where the drivers' row begins. It has no number: that would be past the last.
@@ -29,15 +30,33 @@ fn put_into(owned: &mut [u64], start: usize, x: u8)
     owned[at] |= 1u64 << (x % 64);
 }
 
+// The driver that the record of x names.
+fn driver_of(bytes: &[u8], x: u8) -> u8
+    requires { BytesLent bytes.now × (x ≤ last) }
+    ensures { (result ≡ driver bytes.now x) × (Driven bytes.now → is_object bytes.now x ≡ true → result ≤ last) }
+{
+    byte(bytes, x as usize, DRIVER)
+}
+
 // An object is put into the row of its driver, and its driver into the drivers' row.
 fn own_row(bytes: &[u8], owned: &mut [u64], x: u8)
     requires { BytesLent bytes.now × OwnedRows owned.old × Driven bytes.now × (x ≤ last) }
     ensures { owned.new ≡ own_row row_size bytes.now x owned.old }
 {
-    if byte(bytes, x as u16, KIND) == OBJECT {
-        let driver = driver_of(bytes, x as u16);
+    if byte(bytes, x as usize, KIND) == OBJECT {
+        let driver = driver_of(bytes, x);
         put_into(owned, ROW_WORDS * (driver as usize), x);
         put_into(owned, DRIVERS, driver);
+    }
+}
+
+// The same for the numbers of a word.
+fn own_word(bytes: &[u8], owned: &mut [u64], word: u64, first: u8)
+    requires { BytesLent bytes.now × OwnedRows owned.old × Driven bytes.now × (first + 64 ≤ numbers) }
+    ensures { Put row_size bytes.now (in_word word first) owned.old owned.new × Within (in_word word first) }
+{
+    for x in sets::numbers_of(word, first) {
+        own_row(bytes, owned, x);
     }
 }
 
@@ -46,9 +65,8 @@ fn own_rows(bytes: &[u8], owned: &mut [u64], set: Set)
     requires { BytesLent bytes.now × OwnedRows owned.old × Driven bytes.now }
     ensures { Put row_size bytes.now (has set) owned.old owned.new }
 {
-    for x in set {
-        own_row(bytes, owned, x);
-    }
+    own_word(bytes, owned, set.low, 0);
+    own_word(bytes, owned, set.high, 64);
 }
 
 // What a round marks of the unmarked things in use: those that a source has a flow to, and then the objects of the sources and of these.

@@ -16,7 +16,8 @@ ghost use Rattle.calls.specs.Ends.{ended, Performs, Loads};
 use calls::Request;
 use layout::Fault;
 use levels::Order;
-use model::{Answer, Checked, Report, Tally};
+use model::{Answer, Checked, Report, Tally, Verdict};
+use table::Table;
 use tallies::Entry;
 
 // As calls::call_lent, for a request and by the table.
@@ -24,12 +25,12 @@ fn request_lent(
     bytes: &mut [u8],
     words: &mut [u64],
     lent: usize,
-    order: Order,
+    order: &Order,
     request: Request,
 ) -> Entry
-    ensures { ToldEntry (memory bytes.old words.old) (call_of request) (refused_unless (eqb lent numbers) row_state (memory bytes.old words.old) (model.perform order (memory bytes.old words.old) (call_of request))) result bytes.new words.new }
+    ensures { ToldEntry (memory bytes.old words.old) (call_of request) (refused_unless (eqb lent numbers) row_state (memory bytes.old words.old) (model.perform order.now (memory bytes.old words.old) (call_of request))) result bytes.new words.new }
 {
-    calls::call_lent(bytes, words, lent, order, table::TABLE, request.into())
+    calls::call_lent::<Table>(bytes, words, lent, order, request.into())
 }
 
 // A whole call over the lent list, as C and Rust call it.
@@ -43,16 +44,16 @@ pub extern "C" fn tupehiwo_perform(
 ) -> Answer
     ensures { Performs order (memory bytes.old words.old) tallies.old (call_of request) (ended result bytes.new words.new tallies.new) }
 {
-    let entry = request_lent(bytes, words, tallies.len(), order, request);
+    let entry = request_lent(bytes, words, tallies.len(), &order, request);
     tallies::enter(tallies, entry);
-    entry.answer
+    entry.answer()
 }
 
 // As calls::load_lent, by the table.
-fn load_lent(bytes: &mut [u8], words: &mut [u64], lent: usize, order: Order, text: &[u8]) -> Entry
-    ensures { LoadEntry (refused_unless (eqb lent numbers) row_state (memory bytes.old words.old) (loads.load order (memory bytes.old words.old) text.now)) result bytes.new words.new }
+fn load_lent(bytes: &mut [u8], words: &mut [u64], lent: usize, order: &Order, text: &[u8]) -> Entry
+    ensures { LoadEntry (refused_unless (eqb lent numbers) row_state (memory bytes.old words.old) (loads.load order.now (memory bytes.old words.old) text.now)) result bytes.new words.new }
 {
-    calls::load_lent(bytes, words, lent, order, table::TABLE, text)
+    calls::load_lent::<Table>(bytes, words, lent, order, text)
 }
 
 // A whole load over the lent list, as C and Rust call it.
@@ -66,9 +67,9 @@ pub extern "C" fn tupehiwo_load(
 ) -> Answer
     ensures { Loads order (memory bytes.old words.old) tallies.old text.now (ended result bytes.new words.new tallies.new) }
 {
-    let entry = load_lent(bytes, words, tallies.len(), order, text);
+    let entry = load_lent(bytes, words, tallies.len(), &order, text);
     tallies::enter(tallies, entry);
-    entry.answer
+    entry.answer()
 }
 
 // 0, 14 or 15 as a load past row 3 settles before any call, with the place of the fault, or the text's length: as C and Rust call it.
@@ -79,15 +80,15 @@ pub extern "C" fn tupehiwo_layout(text: &[u8]) -> Checked
     match layout::check(text) {
         Ok(()) => Checked {
             offset: text.len() as u32,
-            verdict: model::GRANTED,
+            verdict: Verdict::Granted.number(),
         },
         Err(Fault::Broken { at }) => Checked {
             offset: at as u32,
-            verdict: model::FORM,
+            verdict: Verdict::Form.number(),
         },
         Err(Fault::Deep { at }) => Checked {
             offset: at as u32,
-            verdict: model::DEEP,
+            verdict: Verdict::Deep.number(),
         },
     }
 }
@@ -97,7 +98,7 @@ pub extern "C" fn tupehiwo_layout(text: &[u8]) -> Checked
 pub extern "C" fn tupehiwo_report(bytes: &[u8], words: &[u64], order: Order) -> Report
     ensures { result ≡ model.report order (memory bytes.now words.now) }
 {
-    marking::report(bytes, words, order)
+    marking::report(bytes, words, &order)
 }
 
 // The lowest marked number of a report at or above a number; where there is none, how many numbers there are.

@@ -13,7 +13,7 @@ use calls::Request;
 use decisions::Decision;
 use levels::Order;
 use model::Answer;
-use table::{Operation, SETTINGS};
+use table::{Operation, Rules, SETTINGS};
 
 // A whole call.
 #[unsafe(no_mangle)]
@@ -27,7 +27,7 @@ pub extern "C" fn tupehiwo_plain_perform(
     ensures performs { Performs order (memory bytes.old words.old) (records_in counts.old) (call_of request) (ended result bytes.new words.new (records_in counts.new)) }
     ensures counts_unchanged { left_over counts.new ≡ left_over counts.old }
 {
-    calls::perform(bytes, words, counts, order, table::RULES, request.into())
+    calls::perform::<Rules>(bytes, words, counts, &order, request.into())
 }
 
 // A whole load.
@@ -42,7 +42,7 @@ pub extern "C" fn tupehiwo_plain_load(
     ensures loads { Loads order (memory bytes.old words.old) (records_in counts.old) text.now (ended result bytes.new words.new (records_in counts.new)) }
     ensures counts_unchanged { left_over counts.new ≡ left_over counts.old }
 {
-    calls::load_counts(bytes, words, counts, order, table::RULES, text)
+    calls::load_counts::<Rules>(bytes, words, counts, &order, text)
 }
 
 // ---- The decision table's entries, worked out from the rules: the table itself is not looked at.
@@ -69,10 +69,10 @@ fn operation_at(n: u16) -> Option<Operation>
 
 // The number of a decision. The verdicts of the rules are all below 16.
 fn entry_of(decision: Decision) -> u8
-    requires { decision.verdict < 16 }
-    ensures { result ≡ entry_of decision }
+    requires { number_of decision.verdict < 16 }
+    ensures { result ≡ entry_of (numbered decision) }
 {
-    decision.verdict + 16 * u8::from(decision.first) + 32 * u8::from(decision.second)
+    decision.verdict.number() + 16 * u8::from(decision.first) + 32 * u8::from(decision.second)
 }
 
 // The entry of a setting of an operation. Operations have their numbers by the table's order; fact i is bit i of the setting.

@@ -1,4 +1,4 @@
--- A walk through a set takes the lowest one of a word, and then those of the other word.
+-- What going through numbers makes of it: whether some number passes, beside what is known.
 -- Assumes nothing.
 use Rattle.std.specs.Prelude.{◌≡◌, Bool, false, ◌||◌, Some, ℕ, ◌+◌, ◌-◌, ◌^◌, ◌≤◌, ◌<◌, eqb}
 use Rattle.std.proofs.Common.{sym, ap, ◌∙◌, arith}
@@ -9,21 +9,7 @@ use Rattle.bits.specs.AllLaws.{eqb_sym, or_false, any_one, any_false}
 use Rattle.rows.specs.Size.{numbers}
 use Rattle.sets.specs.Sets.{last, in_word}
 use Rattle.sets.specs.WalkLaws.{some_of, some_ext, some_or, in_none, in_next}
-use Rattle.sets.specs.declared.numbers.Numbers.{Numbers}
-use Rattle.sets.specs.Numbers.{left, Takes}
-
--- of a word w and what is left besides
-pub takes_word : (w k : ℕ) (q : ℕ → Bool) (x : ℕ) → w < 2 ^ 64 → 0 < w → (x ≡ k + count_trailing_zeros 64 w) × (x ≤ last)
-    → Takes (λ y. in_word w k y || q y) (Some x) (λ y. in_word (bit_and w (w - 1)) k y || q y)
-takes_word w k q x f p is =
-    (is.1, λ y. rw is.0 (ap (λ (b : Bool). b || q y) (in_next w k y f p) ∙ or_assoc (eqb y (k + count_trailing_zeros 64 w)) _ (q y)))
-
--- where a word is empty, the walk goes on with the high one
-pub goes_on : (s : Numbers) {t u : Numbers} → s.rest ≡ 0 → t ≡ u → u.rest ≡ s.high → u.first ≡ 64 → u.high ≡ 0 → (y : ℕ) → left s y ≡ left t y
-unfolding left
-goes_on s e is a b d y = rw (is, a, b, d, e, in_none s.first y, in_none 64 y) (sym (or_false _))
-
--- ---- what a walk makes of it: whether some number passes, beside what is known
+use Rattle.sets.specs.Numbers.{Takes}
 
 pub some_taken : (q r : ℕ → Bool) (x : ℕ) → Takes q (Some x) r → (p : ℕ → Bool) (a : Bool) → ((a || p x) || some_of numbers p r) ≡ (a || some_of numbers p q)
 some_taken q r x h p a =

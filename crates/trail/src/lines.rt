@@ -44,7 +44,7 @@ impl Monitor {
     pub fn report(&self) -> Report
         ensures { result ≡ report self.now.order (memory_of self.now) }
     {
-        marking::report(&self.bytes, &self.words, self.order)
+        marking::report(&self.bytes, &self.words, &self.order)
     }
 
     #[tactic(auto, unfolding(crate::specs::Lines::started_with, crate::specs::Lines::answered))]

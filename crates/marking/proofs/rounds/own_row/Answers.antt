@@ -9,7 +9,7 @@ use Rattle.marking.proofs.rounds.own_row.Goals.{After-driver_of-driver}
 -- the driver of an object is a number
 below : (c : After-driver_of-driver) → c.driver_of-driver.result ≤ last
 unfolding is_object
-below c = omega (arith, c.driver_of-driver.ensures, c.requires.2 c.args.x (eq-eqb _ 2 (sym c.byte.ensures ∙ c.if-byte-eq-OBJECT.true)))
+below c = c.driver_of-driver.ensures.1 c.requires.2 (eq-eqb _ 2 (sym c.byte.ensures ∙ c.if-byte-eq-OBJECT.true))
 
 pub put_into-requires : goal.put_into-requires
 put_into-requires c = (omega arith, omega (arith, below (goal.at.put_into-requires c).After-driver_of-driver, c.requires.1), c.requires.3)
@@ -22,7 +22,7 @@ unfolding own_row is_object
 returns-then-byte-eq-OBJECT c =
     let d = c.driver_of-driver.result in
     let e : row_size * d / row_size ≡ d = omega arith in
-    rw (eq-eqb _ 2 (sym c.byte.ensures ∙ c.if-byte-eq-OBJECT.true)) (c.put_into-then-byte-eq-OBJECT.ensures ∙ rw (c.put_into.ensures, e, c.driver_of-driver.ensures))
+    rw (eq-eqb _ 2 (sym c.byte.ensures ∙ c.if-byte-eq-OBJECT.true)) (c.put_into-then-byte-eq-OBJECT.ensures ∙ rw (c.put_into.ensures, e, c.driver_of-driver.ensures.0))
 
 pub returns-else-byte-eq-OBJECT : goal.returns-else-byte-eq-OBJECT
 unfolding own_row is_object

@@ -12,6 +12,7 @@ use Rattle.marking.specs.Rounds.{Table}
 use Rattle.marking.specs.OwnedLaws.{owned_table}
 use Rattle.marking.specs.SpreadingLaws.{unmarked_set, spreading_first, spreading_next, spreading_end, sets_none}
 use Rattle.marking.proofs.rounds.spread_sets.Goals as goal
+use Rattle.marking.proofs.rounds.spread_sets.Goals.{After-own_rows}
 
 -- the unmarked things in use at entry
 first : (bs ws : List ℕ) {used src left : Set} → used ≡ set_of (λ x. not (eqb (field bs x 0) 0)) → src ≡ set_of (marked (memory bs ws))
@@ -29,16 +30,21 @@ loop-owned-init c =
     let a = c.args in
     spreading_first (memory a.bytes.now a.words.now) c.requires.3 c.requires.4 (first a.bytes.now a.words.now c.with_field.ensures c.requires.3 c.without-before.ensures)
 
-pub loop-owned-preserved : goal.loop-owned-preserved
-loop-owned-preserved c =
+-- the rows of the objects of drivers
+rows : (c : After-own_rows) → Table (memory c.args.bytes.now c.args.words.now) c.own_rows.new.owned
+rows c =
     let a = c.args in
     let f = first a.bytes.now a.words.now c.with_field.ensures c.requires.3 c.without-before.ensures in
-    let t : Table (memory a.bytes.now a.words.now) c.own_rows.new.owned = owned_table _ f (replicate (row_size * (numbers + 1)) 0) _ (cell_zeros row_size (row_size * (numbers + 1))) c.own_rows.ensures in
+    owned_table _ f (replicate (row_size * (numbers + 1)) 0) _ (cell_zeros row_size (row_size * (numbers + 1))) c.own_rows.ensures
+
+pub loop-owned-preserved : goal.loop-owned-preserved
+loop-owned-preserved c =
+    let t = rows (goal.at.loop-owned-preserved c).After-own_rows in
     spreading_next _ c.requires.0 _ t c.loop-owned.invariant c.round-new.ensures (not-false _ (sym c.is_empty-in-loop-owned.ensures ∙ c.if-is_empty-2.false)) c.without-unmarked.ensures
 
 pub returns : goal.returns
 returns c =
     let a = c.args in
     let f = first a.bytes.now a.words.now c.with_field.ensures c.requires.3 c.without-before.ensures in
-    let t : Table (memory a.bytes.now a.words.now) c.own_rows.new.owned = owned_table _ f (replicate (row_size * (numbers + 1)) 0) _ (cell_zeros row_size (row_size * (numbers + 1))) c.own_rows.ensures in
+    let t = rows (goal.at.returns c).After-own_rows in
     spreading_end _ c.requires.0 _ t c.loop-owned.invariant c.round-new.ensures (not-true _ (sym c.is_empty-in-loop-owned.ensures ∙ c.if-is_empty-2.true)) f c.without-all.ensures
