@@ -2,7 +2,9 @@
 #![tactic(auto)]
 
 ghost use Rattle.std.specs.Prelude.{◌≡◌, ◌<◌, ◌≤◌, MatchOption};
+ghost use Rattle.model.specs.Verdicts.{number_of};
 ghost use Rattle.model.specs.State.{memory};
+ghost use Rattle.decisions.specs.Decisions.{numbered};
 ghost use Rattle.table.specs.Table.{entry_of, operations, operation_at};
 ghost use Rattle.tallies.specs.Counts.{records_in, left_over};
 ghost use Rattle.calls.specs.Request.{call_of};

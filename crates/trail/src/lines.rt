@@ -8,9 +8,10 @@ ghost use Rattle.trail.specs.Script.{zeros};
 ghost use Rattle.trail.specs.Lines.{memory_of, tallies_of, leaves, reply_to, asked, started_with, line_done};
 
 use levels::Order;
-use model::{Call, Report};
+use model::{Call, Report, Verdict};
 use script::Command;
 use script::print::Reply;
+use table::Table;
 
 // The list of tallies: a record for each number, three counts to a record.
 const TALLIES: usize = tallies::COUNTS * records::RECORDS;
@@ -51,15 +52,14 @@ impl Monitor {
     fn start(&mut self, order: Order) -> Reply
         ensures { leaves result self.new ≡ started_with (memory_of self.old) (tallies_of self.old) self.old.order order }
     {
-        let answer = calls::perform(
+        let answer = calls::perform::<Table>(
             &mut self.bytes,
             &mut self.words,
             &mut self.counts,
-            order,
-            table::TABLE,
+            &order,
             Call::Start,
         );
-        if answer.verdict == model::GRANTED {
+        if answer.verdict == Verdict::Granted.number() {
             self.order = order;
         }
         Reply::Verdict(answer.verdict)
@@ -69,12 +69,11 @@ impl Monitor {
     fn ask(&mut self, call: Call) -> Reply
         ensures { leaves result self.new ≡ asked (memory_of self.old) (tallies_of self.old) self.old.order call }
     {
-        let answer = calls::perform(
+        let answer = calls::perform::<Table>(
             &mut self.bytes,
             &mut self.words,
             &mut self.counts,
-            self.order,
-            table::TABLE,
+            &self.order,
             call,
         );
         reply_to(call, answer.verdict, answer.rounds)

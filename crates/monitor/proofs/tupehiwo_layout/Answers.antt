@@ -42,10 +42,10 @@ overflow_cast-result-in-Err-Deep c =
     omega (arith, place_small t _ (inr (told_deep (settled t) _ (rw c.in-Err-Deep.field-0-is at (sym c.check.ensures ∙ c.in-Err-Deep.is)))))
 
 pub returns-in-Ok : goal.returns-in-Ok
-returns-in-Ok c = checked_fits _ (sym c.check.ensures ∙ c.in-Ok.is)
+returns-in-Ok c = rw c.number.ensures (checked_fits _ (sym c.check.ensures ∙ c.in-Ok.is))
 
 pub returns-in-Err-Broken : goal.returns-in-Err-Broken
-returns-in-Err-Broken c = checked_broken _ _ (rw c.in-Err-Broken.field-0-is at (sym c.check.ensures ∙ c.in-Err-Broken.is))
+returns-in-Err-Broken c = rw c.number-in-Err-Broken.ensures (checked_broken _ _ (rw c.in-Err-Broken.field-0-is at (sym c.check.ensures ∙ c.in-Err-Broken.is)))
 
 pub returns-in-Err-Deep : goal.returns-in-Err-Deep
-returns-in-Err-Deep c = checked_deep _ _ (rw c.in-Err-Deep.field-0-is at (sym c.check.ensures ∙ c.in-Err-Deep.is))
+returns-in-Err-Deep c = rw c.number-in-Err-Deep.ensures (checked_deep _ _ (rw c.in-Err-Deep.field-0-is at (sym c.check.ensures ∙ c.in-Err-Deep.is)))

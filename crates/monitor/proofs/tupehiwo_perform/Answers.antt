@@ -1,4 +1,5 @@
 use Rattle.std.proofs.Common.{refl, ap, ◌∙◌}
+use Rattle.model.specs.Verdicts.{number_of}
 use Rattle.model.specs.State.{memory}
 use Rattle.model.specs.Events.{left}
 use Rattle.model.specs.Tallies.{tallied}
@@ -11,4 +12,4 @@ returns c =
     let a = c.args in
     let r = c.request_lent-entry.result in
     let d = c.request_lent-entry.ensures in
-    (ap (tallied (left r.answer.verdict r.answer.rounds _ _)) c.enter.ensures ∙ performed_is a.order (memory a.bytes.now a.words.now) a.tallies.now (call_of a.request) _ r d.0.0 refl d.0.1, d.1)
+    rw c.answer.ensures (ap (tallied (left (number_of r.verdict) r.rounds _ _)) c.enter.ensures ∙ performed_is a.order (memory a.bytes.now a.words.now) a.tallies.now (call_of a.request) _ r d.0.0 refl d.0.1, d.1)
