@@ -1,9 +1,11 @@
 -- What a passed order gives its users: a partial order on the levels below the count, with a top.
 -- Assumes nothing.
-use Rattle.std.specs.Prelude.{◌≡◌, true, false, ◌&&◌, ℕ, ◌^◌, ◌≤◌, ◌<◌, ltb, eqb, get_or}
-use Rattle.std.proofs.Common.{sym, ◌∙◌, true≢false, ltb-true, lt-ltb, leb-true, eqb-true}
+use Rattle.std.specs.Prelude.{◌≡◌, true, false, ◌&&◌, ℕ, ◌^◌, ◌≤◌, ◌<◌, ltb, eqb, length, get_or}
+use Rattle.std.proofs.Common.{sym, ap, ◌∙◌, true≢false, lt_of_not-le, ltb-true, lt-ltb, leb-true, eqb-true}
 use Rattle.std.proofs.Math.Bool.{and-eq-true_iff}
-use Rattle.bits.specs.BitLaws.{bit_below}
+use Rattle.std.proofs.Math.ListN.{get_or-eq_default}
+use Rattle.bits.specs.Bit.{bit}
+use Rattle.bits.specs.BitLaws.{bit_zero, bit_below}
 use Rattle.bits.specs.All.{all_b, ◌⇒◌}
 use Rattle.bits.specs.AllLaws.{all_at, implies, and_i, and_r, not_so}
 use Rattle.levels.specs.declared.Order.{Order}
@@ -34,12 +36,15 @@ pub at_related : (o : Order) (a b : ℕ) → at_or_below o a b ≡ true → rela
 unfolding at_or_below
 at_related o a b e = and_r (in_order o a && in_order o b) (related o a b) e
 
--- a row has sixteen bits, so no level is at or below one past them
-pub at_past : (o : Order) (a b : ℕ) → get_or o.rows a 0 < 2 ^ 16 → (in_order o a && in_order o b && ltb b 16) ≡ false → at_or_below o a b ≡ false
-at_past o a b fits out = not_so (at_or_below o a b) (λ e.
+-- no level past the sixteen rows is at or below another, and none is at or above one
+pub at_outside : (o : Order) → length o.rows ≡ 16 → (a b : ℕ) → (a < 16 → get_or o.rows a 0 < 2 ^ 16)
+    → (in_order o a && in_order o b && ltb a 16 && ltb b 16) ≡ false → at_or_below o a b ≡ false
+at_outside o long a b fits out = not_so (at_or_below o a b) (λ e.
+    let r = at_related o a b e in
     let l = both_in o a b e in
-    let lb : b < 16 = bit_below 16 _ b fits (at_related o a b e) in
-    true≢false (sym (rw (lt-ltb a o.count l.0, lt-ltb b o.count l.1, lt-ltb b 16 lb)) ∙ out))
+    let la : a < 16 = lt_of_not-le (λ (k : 16 ≤ a). true≢false (sym r ∙ ap (λ (x : ℕ). bit x b) (get_or-eq_default o.rows 0 (rw long k)) ∙ bit_zero b)) in
+    let lb : b < 16 = bit_below 16 _ b (fits la) r in
+    true≢false (sym (rw (lt-ltb a o.count l.0, lt-ltb b o.count l.1, lt-ltb a 16 la, lt-ltb b 16 lb)) ∙ out))
 
 module _ (o : Order) (ok : order_passes o ≡ true) where
   pub is_order : IsOrder o
