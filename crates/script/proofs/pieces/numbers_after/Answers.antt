@@ -1,13 +1,10 @@
-use Rattle.std.proofs.Common.{refl, sym, ◌∙◌, arith}
+use Rattle.std.proofs.Common.{sym, ◌∙◌, arith}
 use Rattle.std.proofs.Math.ListN.{length-set}
 use Rattle.script.specs.Pieces.{numbers_from}
 use Rattle.script.specs.PiecesLaws.{after_at, after_end}
 use Rattle.script.specs.NumbersLaws.{Next, next_number, no_next, numbers_more, numbers_full, numbers_stop}
 use Rattle.script.proofs.pieces.numbers_after.Goals.{In_ok-found}
 use Rattle.script.proofs.pieces.numbers_after.Goals as goal
-
-pub loop-end-init : goal.loop-end-init
-loop-end-init c = record { room = omega arith; as_long = refl; so_far = refl }
 
 pub returns-then-count-eq-MOST_NUMBERS-clause-numbers : goal.returns-then-count-eq-MOST_NUMBERS-clause-numbers
 returns-then-count-eq-MOST_NUMBERS-clause-numbers c =

@@ -1,4 +1,4 @@
-use Rattle.std.proofs.Common.{refl, sym, ap, ◌∙◌, take_all, arith}
+use Rattle.std.proofs.Common.{refl, sym, ap, ◌∙◌, arith}
 use Rattle.trail.specs.Feeding.{after_byte, after_piece}
 use Rattle.trail.specs.Buffers.{reading_in}
 use Rattle.trail.proofs.BufferLaws.{piece_more}
@@ -16,6 +16,3 @@ loop-b-preserved c =
       room = omega (arith, c.feed_byte.ensures.room);
       fed = c.feed_byte.ensures.feeds ∙ ap (after_byte _) c.loop-b.invariant.fed ∙ sym (piece_more c.args.piece.now i (reading_in s) (omega arith));
     }
-
-pub returns : goal.returns
-returns c = rw (← take_all c.loop-b.b-index c.args.piece.now (omega arith)) c.loop-b.invariant.fed
