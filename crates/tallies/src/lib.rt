@@ -86,18 +86,19 @@ pub fn asker(bytes: &[u8], call: Call) -> u16
     ensures { ((ws : List ℕ) → result ≡ model.asker (memory bytes.now ws) call) × (result < numbers) }
 {
     match call {
-        Call::Read(x, ..)
-        | Call::Write(x, ..)
-        | Call::Execute(x, ..)
-        | Call::Create(x, ..)
-        | Call::CreateRoot(x, ..)
-        | Call::Move(x, ..)
-        | Call::Delete(x, ..)
-        | Call::CallTask(x, ..)
-        | Call::Invoke(x, ..)
-        | Call::Pass(x, ..)
-        | Call::Post(x, ..)
-        | Call::Find(x, ..) => if_task(bytes, x),
+        // By hand: an arm for each, since one arm with twelve alternatives that name x is slower.
+        Call::Read(x, ..) => if_task(bytes, x),
+        Call::Write(x, ..) => if_task(bytes, x),
+        Call::Execute(x, ..) => if_task(bytes, x),
+        Call::Create(x, ..) => if_task(bytes, x),
+        Call::CreateRoot(x, ..) => if_task(bytes, x),
+        Call::Move(x, ..) => if_task(bytes, x),
+        Call::Delete(x, ..) => if_task(bytes, x),
+        Call::CallTask(x, ..) => if_task(bytes, x),
+        Call::Invoke(x, ..) => if_task(bytes, x),
+        Call::Pass(x, ..) => if_task(bytes, x),
+        Call::Post(x, ..) => if_task(bytes, x),
+        Call::Find(x, ..) => if_task(bytes, x),
         Call::Start | Call::Mark(_) | Call::Step(_) | Call::Spread => 0,
     }
 }
