@@ -3,8 +3,6 @@
 
 mod numbers;
 
-pub use numbers::numbers_of;
-
 ghost use Rattle.std.specs.Prelude.{◌≡◌, not, ◌&&◌, ◌||◌, ◌+◌, ◌≤◌, ◌<◌, eqb};
 ghost use Rattle.std.specs.Int.Count.{count_trailing_zeros};
 ghost use Rattle.bits.specs.Bit.{word_of};
@@ -14,6 +12,8 @@ ghost use Rattle.rows.specs.Rows.{cell, join_row};
 ghost use Rattle.rows.specs.Size.{row_size, numbers};
 ghost use Rattle.records.specs.Records.{record_size, BytesLent, field};
 ghost use Rattle.sets.specs.Sets.{last, Within, has, set_of, in_word, joined, TableLent};
+
+pub use numbers::numbers_of;
 
 // Number x is bit x of the low word, or bit x - 64 of the high one.
 #[derive(Clone, Copy)]
