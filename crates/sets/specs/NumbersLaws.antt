@@ -1,14 +1,10 @@
 -- What going through numbers makes of it: whether some number passes, beside what is known.
 -- Assumes nothing.
-use Rattle.std.specs.Prelude.{◌≡◌, Bool, false, ◌||◌, Some, ℕ, ◌+◌, ◌-◌, ◌^◌, ◌≤◌, ◌<◌, eqb}
+use Rattle.std.specs.Prelude.{◌≡◌, Bool, false, ◌||◌, Some, ℕ, ◌<◌, eqb}
 use Rattle.std.proofs.Common.{sym, ap, ◌∙◌, arith}
-use Rattle.std.proofs.Math.Bool.{or_assoc}
-use Rattle.std.specs.Int.Bits.{bit_and}
-use Rattle.std.specs.Int.Count.{count_trailing_zeros}
 use Rattle.bits.specs.AllLaws.{eqb_sym, or_false, any_one, any_false}
 use Rattle.rows.specs.Size.{numbers}
-use Rattle.sets.specs.Sets.{last, in_word}
-use Rattle.sets.specs.WalkLaws.{some_of, some_ext, some_or, in_none, in_next}
+use Rattle.sets.specs.WalkLaws.{some_of, some_ext, some_or}
 use Rattle.sets.specs.Numbers.{Takes}
 
 pub some_taken : (q r : ℕ → Bool) (x : ℕ) → Takes q (Some x) r → (p : ℕ → Bool) (a : Bool) → ((a || p x) || some_of numbers p r) ≡ (a || some_of numbers p q)

@@ -4,8 +4,6 @@
 
 mod numbers;
 
-pub use numbers::numbers_of;
-
 ghost use Rattle.std.specs.Prelude.{◌≡◌, not, ◌&&◌, ◌||◌, ◌+◌, ◌≤◌, ◌<◌, eqb};
 ghost use Rattle.std.specs.Int.Count.{count_trailing_zeros};
 ghost use Rattle.bits.specs.Bit.{word_of};
@@ -15,6 +13,8 @@ ghost use Rattle.rows.specs.Rows.{cell, join_row};
 ghost use Rattle.rows.specs.Size.{row_size, numbers};
 ghost use Rattle.records.specs.Records.{record_size, BytesLent, field};
 ghost use Rattle.sets.specs.Sets.{last, Within, has, set_of, in_word, joined, TableLent};
+
+pub use numbers::numbers_of;
 
 use records::RECORD_SIZE;
 use rows::ROW_WORDS;

@@ -28,11 +28,12 @@ impl Iterator for Numbers {
             return None;
         }
         let x = lowest_number(self.rest, self.first);
-        self.rest = self.rest & (self.rest - 1);
+        self.rest &= self.rest - 1;
         Some(x)
     }
 }
 
+// The numbers of a word whose bit 0 stands for `first`.
 pub fn numbers_of(word: u64, first: u8) -> Numbers
     requires { first + 64 ≤ numbers }
     ensures { (result.rest ≡ word) × (result.first ≡ first) }
