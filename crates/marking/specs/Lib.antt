@@ -8,3 +8,4 @@ pub mod RoundSetLaws
 pub mod RoundLaws
 pub mod OwnedLaws
 pub mod SpreadingLaws
+pub mod LowestLaws

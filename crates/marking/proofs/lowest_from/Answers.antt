@@ -1,5 +1,5 @@
 use Rattle.std.proofs.Common.{sym, ◌∙◌, rules}
-use Rattle.marking.specs.FirstLaws.{none_above, some_above}
+use Rattle.marking.specs.LowestLaws.{none_above, some_above}
 use Rattle.marking.proofs.lowest_from.Goals as goal
 
 pub returns-then-above-eq0 : goal.returns-then-above-eq0

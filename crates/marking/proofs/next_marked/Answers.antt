@@ -1,4 +1,4 @@
-use Rattle.marking.specs.FirstLaws.{next_low, next_high, next_none}
+use Rattle.marking.specs.LowestLaws.{next_low, next_high, next_none}
 use Rattle.marking.proofs.next_marked.Goals as goal
 
 pub returns-in-Some : goal.returns-in-Some
