@@ -135,6 +135,7 @@ fn object(
 }
 
 // The whole text, form after form.
+// By hand: a match stands where `?` would, since the calls of lay_out ask for a verdict, and not for a Result.
 pub fn lay_out(bytes: &mut [u8], words: &mut [u64], order: Order, engine: Engine, text: &[u8]) -> u8
     requires { Ready order bytes.old words.old }
     ensures { left result 0 bytes.new words.new ≡ in_turn order (calls_in text.now) (memory bytes.old words.old) }
