@@ -133,6 +133,7 @@ fn object<E: Engine>(
 }
 
 // The whole text, form after form.
+// By hand: a match stands where `?` would, since the calls of lay_out ask for a verdict, and not for a Result.
 pub fn lay_out<E: Engine>(
     bytes: &mut [u8],
     words: &mut [u64],
