@@ -96,6 +96,7 @@ impl View<'_> {
     }
 
     // The row of the read level of x.
+    // By hand: a function beside `level_row`, since each of the two bytes has a law of its own that its level has a row.
     pub fn read_row(&self, x: u16) -> u16
         ensures { result ≡ row_of self.now.order.now (field self.now.bytes.now x 2) }
     {
@@ -143,6 +144,7 @@ impl View<'_> {
     }
 
     // The task e has read access to x.
+    // By hand: reads and writes have a name each, as the documents do; what they share is `has_access`.
     pub fn reads(&self, e: u16, x: u16) -> bool
         ensures { result ≡ (ltb e numbers && cell row_size self.now.words.now (numbers + e) x) }
     {

@@ -50,6 +50,7 @@ pub extern "C" fn tupehiwo_plain_load(
 // ---- The decision table's entries, worked out from the rules: the table itself is not looked at.
 
 // Where a number names no operation or no setting.
+// By hand: a number and no Option, since `tupehiwo_plain_entry` hands this answer to C.
 const NO_ENTRY: u8 = 255;
 
 // The operation of a number, in the table's order, if there is one.

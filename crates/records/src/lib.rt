@@ -73,6 +73,7 @@ pub const TASK: u8 = 1;
 pub const OBJECT: u8 = 2;
 
 // What stands in the container byte of a root object.
+// By hand: a byte of the lent memory, as the kinds are.
 pub const ROOT_SIGN: u8 = 255;
 
 // A byte of the record of x, and 0 past the end of the bytes.
@@ -134,6 +135,7 @@ pub fn set_record(bytes: &mut [u8], x: u16, fields: Record)
     set_field(bytes, x, LAST_SPARE, 0);
 }
 
+// By hand: tasks and objects have a test each, as the definitions do; one test over the kind would be no shorter where it is called.
 #[tactic(auto, unfolding(crate::specs::Records::is_task))]
 pub fn is_task(bytes: &[u8], x: u16) -> bool
     ensures { result ≡ is_task bytes.now x }

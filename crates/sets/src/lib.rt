@@ -15,7 +15,6 @@ ghost use Rattle.records.specs.Records.{record_size, BytesLent, field};
 ghost use Rattle.sets.specs.Sets.{last, Within, has, set_of, in_word, joined, TableLent};
 
 pub use numbers::numbers_of;
-
 use records::RECORD_SIZE;
 use rows::ROW_WORDS;
 
