@@ -1,6 +1,6 @@
 -- The records in groups of eight, and what is gathered from group after group.
 -- Assumes nothing.
-use Rattle.std.specs.Prelude.{◌≡◌, Bool, true, ◌&&◌, List, ℕ, ◌+◌, ◌-◌, ◌*◌, ◌%◌, ◌≤◌, ◌<◌, eqb, ltb, get_or}
+use Rattle.std.specs.Prelude.{◌≡◌, Bool, true, false, ◌&&◌, List, ℕ, ◌+◌, ◌-◌, ◌*◌, ◌%◌, ◌≤◌, ◌<◌, eqb, ltb, get_or}
 use Rattle.std.proofs.Common.{sym, ◌∙◌, ⊎_elim, true≢false, not-le_of_lt, arith, Fits, eqb-true, ltb-true, ltb-false, lt-ltb}
 use Rattle.std.proofs.Math.Bool.{and-eq-true_iff}
 use Rattle.std.specs.Int.{w8}
@@ -10,7 +10,7 @@ use Rattle.rows.specs.Size.{numbers}
 use Rattle.levels.specs.declared.Order.{Order}
 use Rattle.records.specs.Records.{BytesLent, kind, sound_record}
 use Rattle.records.specs.WordLaws.{word, word_fits, other_fits, other_bits, not_two, if_even, low, raised, below, few_fit, few_sound, word_record, low_fits}
-use Rattle.records.specs.SeenLaws.{seen_fits, seen_low, Sees, unfit_passes}
+use Rattle.records.specs.SeenLaws.{seen_fits, seen_low, Sees}
 use Rattle.records.specs.declared.Seen.{Seen}
 
 abbrev pub group_size : ℕ
@@ -34,6 +34,10 @@ pub record FreeUntil (bs : List ℕ) (from n : ℕ) : Type 0 where
   pub in_range : n ≤ numbers
   pub whole : n % group_size ≡ 0
   pub free : (x : ℕ) → from ≤ x → x < n → eqb (word bs x) 0 ≡ true
+
+-- all records pass
+abbrev pub all_fit : List ℕ → Bool
+all_fit bs = all_b numbers (λ x. word_fits bs x)
 
 -- s is gathered from the first n records
 pub record Gathered (bs : List ℕ) (n : ℕ) (s : Seen) : Type 0 where
@@ -99,14 +103,9 @@ gathered_step bs n s t g e =
           (either (ltb x n));
     }
 
--- where an object is unfit, that holds of all records
-pub gathered_unfit : (bs : List ℕ) (n : ℕ) (s : Seen) → n ≤ numbers → Gathered bs n s → s.unfit ≡ true → Gathered bs numbers s
-gathered_unfit bs n s l g u =
-    let e = unfit_passes s u in
-    record {
-      fits = e ∙ sym (not_so _ (λ t. true≢false (sym (all_i n (λ x. word_fits bs x) (λ x b. all_at numbers (λ x. word_fits bs x) t x (omega arith))) ∙ sym g.fits ∙ e)));
-      lows = λ m f. absurd (true≢false (sym f ∙ e));
-    }
+-- a record that does not pass
+pub not_all : (bs : List ℕ) (x : ℕ) → x < numbers → word_fits bs x ≡ false → all_fit bs ≡ false
+not_all bs x l f = not_so _ (λ t. true≢false (sym (all_at numbers (λ x. word_fits bs x) t x l) ∙ f))
 
 free_fits : (bs : List ℕ) (x : ℕ) → eqb (word bs x) 0 ≡ true → word_fits bs x ≡ true
 unfolding word_fits other_fits other_bits not_two if_even
@@ -145,6 +144,10 @@ module _ (o : Order) (bs : List ℕ) (long : BytesLent bs) (byte : (i : ℕ) →
       (λ h. let few : (y : ℕ) → y < numbers → kind bs y ≤ 2 = λ y l. few_sound o bs y long byte (all_at numbers (λ x. sound_record o bs x) h y l) in
       let at : (x : ℕ) → x < numbers → (below (raised o.count (word bs x)) ≡ true) × (word_fits bs x ≡ true) = λ x l. simp and-eq-true_iff at (word_record o bs x long byte l few some most ∙ all_at numbers (λ x. sound_record o bs x) h x l) in
       and_i (all_i numbers (λ x. word_fits bs x) (λ x l. (at x l).1)) (all_i numbers (λ x. below (raised o.count (word bs x))) (λ x l. (at x l).0)))
+
+  -- where a record does not pass, not all are sound
+  pub not_all_sound : all_fit bs ≡ false → false ≡ all_sound o bs numbers
+  not_all_sound f = rw f at all_records
 
   -- all are sound where what is gathered passes and the levels fit
   pub records_are : (s : Seen) → Gathered bs numbers s → (seen_fits s && levels_fit o.count bs) ≡ all_sound o bs numbers

@@ -1,7 +1,7 @@
 -- What is gathered from many records, and that its tests are those of each.
 -- Assumes nothing.
-use Rattle.std.specs.Prelude.{◌≡◌, refl, Bool, true, false, not, ◌&&◌, ℕ, ◌*◌, ◌/◌, ◌%◌, ◌^◌, ◌≤◌, eqb}
-use Rattle.std.proofs.Common.{sym, ◌∙◌, true≢false, arith, ltb-true, lt-ltb}
+use Rattle.std.specs.Prelude.{◌≡◌, refl, Bool, true, false, ◌&&◌, ℕ, ◌*◌, ◌/◌, ◌%◌, ◌^◌, ◌≤◌, eqb}
+use Rattle.std.proofs.Common.{sym, ◌∙◌, arith, ltb-true, lt-ltb}
 use Rattle.std.proofs.Math.Bool.{and-eq-true_iff}
 use Rattle.std.specs.Int.Bits.{bit_and, bit_or, or_add_and}
 use Rattle.std.proofs.lemmas.Nat.{or_shr, or_mod, and_le_l, and_le_r}
@@ -15,8 +15,7 @@ use Rattle.records.specs.declared.Seen.{Seen}
 
 unfoldable pub seen_fits : Seen → Bool
 seen_fits s =
-    not s.unfit
-    && object_bits s.objects
+    object_bits s.objects
     && other_bits s.others
     && not_two s.tripled
     && eqb s.even 0
@@ -105,12 +104,11 @@ pub with_object : (s : Seen) (w d c : ℕ)
       even = s.even;
       drivers = bit_and s.drivers d;
       containers = bit_and s.containers c;
-      unfit = s.unfit;
     })
 unfolding seen_fits
 with_object s w d c =
     record {
-      fits = (both (both (both (both (both (both (same (not s.unfit)) (or_objects s.objects w)) (same (other_bits s.others))) (same (not_two s.tripled))) (same (eqb s.even 0))) (and_task s.drivers d)) (and_object s.containers c)).equal
+      fits = (both (both (both (both (both (or_objects s.objects w) (same (other_bits s.others))) (same (not_two s.tripled))) (same (eqb s.even 0))) (and_task s.drivers d)) (and_object s.containers c)).equal
           ∙ simp and-true;
       lows = λ n f h. let p = simp and-eq-true_iff at h in let q = simp and-eq-true_iff at (low_or n s.objects w p.0) in simp and-eq-true_iff ((q.0, p.1), q.1);
     }
@@ -124,22 +122,11 @@ pub with_other : (s : Seen) (w : ℕ)
       even = bit_or s.even (if_even w);
       drivers = s.drivers;
       containers = s.containers;
-      unfit = s.unfit;
     })
 unfolding seen_fits other_fits
 with_other s w =
     record {
-      fits = (both (both (both (both (both (both (same (not s.unfit)) (same (object_bits s.objects))) (or_others s.others w)) (or_two s.tripled (w / 0x100_0000_0000 * 3))) (or_none s.even (if_even w))) (same (task_kind s.drivers))) (same (object_kind s.containers))).equal
+      fits = (both (both (both (both (both (same (object_bits s.objects)) (or_others s.others w)) (or_two s.tripled (w / 0x100_0000_0000 * 3))) (or_none s.even (if_even w))) (same (task_kind s.drivers))) (same (object_kind s.containers))).equal
           ∙ simp and-true;
       lows = λ n f h. let p = simp and-eq-true_iff at h in let q = simp and-eq-true_iff at (low_or n s.others w p.1) in simp and-eq-true_iff ((p.0, q.0), q.1);
     }
-
--- an unfit object passes nothing
-pub unfit_passes : (t : Seen) → t.unfit ≡ true → seen_fits t ≡ false
-unfolding seen_fits
-unfit_passes t h = simp h
-
-pub with_unfit : (s t : Seen) (w : ℕ) → t.unfit ≡ true → Sees false w s t
-with_unfit s t w h =
-    let e = unfit_passes t h in
-    record { fits = e ∙ sym (and-false (seen_fits s)); lows = λ n f. absurd (true≢false (sym f ∙ e)) }

@@ -1,7 +1,7 @@
 // The records of the numbers, and the test that the bytes are sound.
 #![tactic(auto)]
 
-ghost use Rattle.std.specs.Prelude.{◌≡◌, true, false, List, ℕ, ◌+◌, ◌*◌, ◌%◌, ◌≤◌, ◌<◌, length, replicate};
+ghost use Rattle.std.specs.Prelude.{◌≡◌, true, false, List, ℕ, ◌+◌, ◌*◌, ◌%◌, ◌≤◌, ◌<◌, length, replicate, MatchOption};
 ghost use Rattle.records.specs.Records as model;
 ghost use Rattle.rows.specs.Size.{numbers};
 ghost use Rattle.records.specs.Records.{
@@ -26,7 +26,7 @@ ghost use Rattle.records.specs.WordLaws.{
   low,
 };
 ghost use Rattle.records.specs.SeenLaws.{seen_fits, Sees};
-ghost use Rattle.records.specs.GroupLaws.{group_size, group_free, groups_free, all_sound, FreeUntil, Gathered, levels_fit};
+ghost use Rattle.records.specs.GroupLaws.{group_size, group_free, groups_free, all_sound, FreeUntil, Gathered, levels_fit, all_fit};
 
 use levels::Order;
 use rows::NUMBERS;
@@ -245,8 +245,6 @@ struct Seen {
     // By `and`: the kinds of the objects' drivers, and of their containers.
     drivers: u8,
     containers: u8,
-    // An object lies in itself, or in no number.
-    unfit: bool,
 }
 
 impl Seen {
@@ -258,37 +256,30 @@ impl Seen {
         even: 0,
         drivers: TASK,
         containers: OBJECT,
-        unfit: false,
     };
 
-    // After an unfit object nothing else matters.
-    const UNFIT: Seen = Seen {
-        unfit: true,
-        ..Seen::NONE
-    };
-
-    // With the record w of the object x.
+    // With the record w of the object x; None where it is unfit: it lies in itself, or in no number.
     #[tactic(auto, using(crate::specs::SeenLaws::with_object, crate::specs::WordLaws::in_number))]
-    fn with_object(self, bytes: &Lent, x: usize, w: usize) -> Seen
+    fn with_object(self, bytes: &Lent, x: usize, w: usize) -> Option<Seen>
         requires { x < numbers }
-        ensures { Sees (object_fits bytes.now x w) w self result }
+        ensures { MatchOption result (object_fits bytes.now x w ≡ false) (λ t. Sees (object_fits bytes.now x w) w self t) }
     {
         let container = w / 0x1_0000_0000 % 0x100;
         if x == container {
-            return Seen::UNFIT;
+            return None;
         }
         let place = place_of(x, container);
         if place >= RECORDS {
-            return Seen::UNFIT;
+            return None;
         }
         let driver = kind_at(bytes, w / 0x100_0000 % RECORDS);
         let holder = kind_at(bytes, place);
-        Seen {
+        Some(Seen {
             objects: self.objects | w,
             drivers: self.drivers & driver,
             containers: self.containers & holder,
             ..self
-        }
+        })
     }
 
     // With a record w that is no object's. Marks of 2 are unsound: three times 2 has bit 2, three times 0, 1 and 3 has not.
@@ -306,32 +297,29 @@ impl Seen {
 
     // With the record of x, which is an object's where its kind is 2.
     #[tactic(auto, unfolding(crate::specs::WordLaws::word_fits))]
-    fn with_record(self, bytes: &Lent, x: usize) -> Seen
+    fn with_record(self, bytes: &Lent, x: usize) -> Option<Seen>
         requires { x < numbers }
-        ensures { Sees (word_fits bytes.now x) (word bytes.now x) self result }
+        ensures { MatchOption result (word_fits bytes.now x ≡ false) (λ t. Sees (word_fits bytes.now x) (word bytes.now x) self t) }
     {
         let w = word(bytes, x);
         if w % 0x100 == OBJECT as usize {
             self.with_object(bytes, x, w)
         } else {
-            self.with_other(w)
+            Some(self.with_other(w))
         }
     }
 
     // With the group from x on. Nothing more is looked at after an unfit object.
-    #[tactic(auto, using(crate::specs::GroupLaws::gathered_step, crate::specs::GroupLaws::gathered_unfit))]
-    fn with_group(self, bytes: &Lent, x: usize) -> Seen
+    #[tactic(auto, using(crate::specs::GroupLaws::gathered_step, crate::specs::GroupLaws::not_all))]
+    fn with_group(self, bytes: &Lent, x: usize) -> Option<Seen>
         requires { (x + group_size ≤ numbers) × Gathered bytes.now x self }
-        ensures { (result.unfit ≡ false → Gathered bytes.now (x + group_size) result) × (result.unfit ≡ true → Gathered bytes.now numbers result) }
+        ensures { MatchOption result (all_fit bytes.now ≡ false) (λ t. Gathered bytes.now (x + group_size) t) }
     {
         let mut next = self;
         for y in x..x + GROUP_SIZE {
-            next = next.with_record(bytes, y);
-            if next.unfit {
-                break;
-            }
+            next = next.with_record(bytes, y)?;
         }
-        next
+        Some(next)
     }
 
     // What is gathered is what sound records show, but that levels are only known to be below 0x80.
@@ -339,8 +327,7 @@ impl Seen {
     fn fits(self) -> bool
         ensures { result ≡ seen_fits self }
     {
-        !self.unfit
-            & object_bits(self.objects)
+        object_bits(self.objects)
             & other_bits(self.others)
             & (self.tripled / 4 % 2 == 0)
             & (self.even == 0)
@@ -419,8 +406,8 @@ fn free_until(bytes: &Lent, from: usize) -> usize
 }
 
 // What all records show. Where a group begins with a free record, free groups are passed over.
-fn gather(bytes: &Lent) -> Seen
-    ensures { Gathered bytes.now numbers result }
+fn gather(bytes: &Lent) -> Option<Seen>
+    ensures { MatchOption result (all_fit bytes.now ≡ false) (λ t. Gathered bytes.now numbers t) }
 {
     let mut seen = Seen::NONE;
     let mut x = 0;
@@ -430,13 +417,10 @@ fn gather(bytes: &Lent) -> Seen
             x = free_until(bytes, x + GROUP_SIZE);
             continue;
         }
-        seen = seen.with_group(bytes, x);
-        if seen.unfit {
-            break;
-        }
+        seen = seen.with_group(bytes, x)?;
         x += GROUP_SIZE;
     }
-    seen
+    Some(seen)
 }
 
 // The records are sound. Levels whose `or` is below the count are so themselves; else each is tested.
@@ -444,7 +428,9 @@ fn records_sound(bytes: &Lent, order: Order) -> bool
     requires { (0 < order.count) × (order.count < 0x80) }
     ensures { result ≡ all_sound order bytes.now numbers }
 {
-    let seen = gather(bytes);
+    let Some(seen) = gather(bytes) else {
+        return false;
+    };
     let count = order.count as usize;
     seen.fits()
         && (levels_low(seen.objects, count) & levels_low(seen.others, count)
