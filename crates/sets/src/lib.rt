@@ -14,7 +14,6 @@ ghost use Rattle.records.specs.Records.{record_size, field};
 ghost use Rattle.sets.specs.Sets.{last, Within, has, set_of, in_word, joined, TableLent};
 
 pub use numbers::numbers_of;
-
 use records::{Lent, RECORD_SIZE};
 use rows::ROW_WORDS;
 
