@@ -1,23 +1,22 @@
 // What a deletion keeps of the trail: each thing that fed the object, and its driver, goes on to feed each thing that the object fed.
-// By hand: bytes and words stay apart, and `BytesLent` and `WordsLent` stand in each contract, since the memory is lent as slices of C's.
 #![tactic(auto)]
 
 ghost use Rattle.std.specs.Prelude.{◌≡◌, true, ◌<◌};
-ghost use Rattle.rows.specs.Size.{numbers, WordsLent};
-ghost use Rattle.records.specs.Records.{BytesLent, driver as driver_byte, is_object};
+ghost use Rattle.rows.specs.Size.{numbers};
+ghost use Rattle.records.specs.Records.{driver as driver_byte, is_object};
 ghost use Rattle.sets.specs.Sets.{set_of};
 ghost use Rattle.model.specs.State.{memory};
 ghost use Rattle.model.specs.Effects as model;
 ghost use Rattle.model.specs.Effects.{feeder, fed_by, effect};
 ghost use Rattle.model.specs.Events.{feeds_unmarked};
 
-use records::{DRIVER, FREE, KIND, MARKS, RECORD_SIZE};
-use rows::{NUMBERS, ROW_WORDS};
+use records::{DRIVER, FREE, KIND, Lent, MARKS, RECORD_SIZE};
+use rows::{NUMBERS, ROW_WORDS, Words};
 use sets::Set;
 
 // What x feeds: the things in use, but for x itself, that it has a flow to. A row without flows needs no look at the records.
-fn fed_by(bytes: &[u8], words: &[u64], x: u16) -> Set
-    requires { BytesLent bytes.now × WordsLent words.now × (x < numbers) }
+fn fed_by(bytes: &Lent, words: &Words, x: u16) -> Set
+    requires { x < numbers }
     ensures { result ≡ set_of (fed_by (memory bytes.now words.now) x) }
 {
     let row = sets::row(words, x);
@@ -29,8 +28,8 @@ fn fed_by(bytes: &[u8], words: &[u64], x: u16) -> Set
 }
 
 // x is marked and feeds an unmarked thing.
-pub fn feeds_unmarked(bytes: &[u8], words: &[u64], x: u16) -> bool
-    requires { BytesLent bytes.now × WordsLent words.now × (x < numbers) }
+pub fn feeds_unmarked(bytes: &Lent, words: &Words, x: u16) -> bool
+    requires { x < numbers }
     ensures { result ≡ feeds_unmarked (memory bytes.now words.now) x }
 {
     if records::field(bytes, x, MARKS) == 0 {
@@ -43,10 +42,9 @@ pub fn feeds_unmarked(bytes: &[u8], words: &[u64], x: u16) -> bool
 // An object that is to go. Its driver is read once, and not again for each row.
 #[derive(Drop)]
 struct Going<'a> {
-    bytes: &'a [u8],
+    bytes: &'a Lent,
     x: u16,
     driver: u16,
-    ghost lent: { BytesLent bytes.now },
     ghost within: { x < numbers },
     ghost object: { is_object bytes.now x ≡ true },
     ghost drives: { driver ≡ driver_byte bytes.now x },
@@ -54,8 +52,8 @@ struct Going<'a> {
 
 impl Going<'_> {
     // p feeds it: a thing in use, other than it, that has a flow to it or drives it.
-    fn is_fed_by(&self, words: &[u64], p: u16) -> bool
-        requires { WordsLent words.now × (p < numbers) }
+    fn is_fed_by(&self, words: &Words, p: u16) -> bool
+        requires { p < numbers }
         ensures { result ≡ feeder (memory self.now.bytes.now words.now) self.now.x p }
     {
         let x = self.x;
@@ -67,8 +65,8 @@ impl Going<'_> {
 
 // What fed the object x, and its driver, is recorded as feeding what x fed. Nothing is bridged where x fed nothing.
 // One pass over the rows: that of each feeder is joined with what x fed, but for the feeder itself. A row is asked before it is joined, so all are asked as they were.
-pub fn bridge(bytes: &[u8], words: &mut [u64], x: u16)
-    requires { BytesLent bytes.now × WordsLent words.old × (x < numbers) × (is_object bytes.now x ≡ true) }
+pub fn bridge(bytes: &Lent, words: &mut Words, x: u16)
+    requires { (x < numbers) × (is_object bytes.now x ≡ true) }
     ensures { memory bytes.now words.new ≡ effect (model.bridge x) (memory bytes.now words.old) }
 {
     let fed = fed_by(bytes, words, x);

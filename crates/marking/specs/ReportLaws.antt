@@ -6,13 +6,17 @@ use Rattle.bits.specs.AllLaws.{and_i, and-false}
 use Rattle.rows.specs.Size.{present, WordsLent}
 use Rattle.levels.specs.declared.Order.{Order}
 use Rattle.levels.specs.Order.{order_passes}
-use Rattle.records.specs.Records.{sound, lent_bytes}
+use Rattle.records.specs.Records.{sound, lent_bytes, BytesLent}
 use Rattle.records.specs.RecordLaws.{long}
 use Rattle.model.specs.Verdicts.{row_state, row_order}
 use Rattle.model.specs.State.{Memory, lengths_fit}
 use Rattle.model.specs.Monitor.{no_report, report, marked_report}
 
 module _ (o : Order) (m : Memory) where
+  pub report_bytes : (BytesLent m.bytes → ⊥) → no_report present row_state ≡ report o m
+  unfolding report lengths_fit
+  report_bytes n = rw (ne_eqb _ _ n)
+
   pub report_length : (WordsLent m.words → ⊥) → no_report present row_state ≡ report o m
   unfolding report lengths_fit
   report_length n = rw (ne_eqb _ _ n, and-false (eqb (length m.bytes) (lent_bytes present)))

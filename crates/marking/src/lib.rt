@@ -1,5 +1,4 @@
 // Marking: mark and step, the spread, and the report of what is marked.
-// By hand: bytes, words and order stay apart, and `BytesLent` stands in each contract, since the memory is lent as slices of C's.
 #![tactic(auto)]
 
 mod marks;
@@ -9,7 +8,7 @@ ghost use Rattle.std.specs.Prelude.{◌≡◌, List, ℕ, ◌<◌};
 ghost use Rattle.bits.specs.Bit.{bit};
 ghost use Rattle.rows.specs.Size.{present, numbers};
 ghost use Rattle.levels.specs.declared.Order.{Order};
-ghost use Rattle.records.specs.Records.{record_size, BytesLent, field};
+ghost use Rattle.records.specs.Records.{record_size, field};
 ghost use Rattle.model.specs.Ready.{Ready};
 ghost use Rattle.model.specs.Verdicts.{number_of};
 ghost use Rattle.model.specs.State.{memory};
@@ -22,13 +21,13 @@ ghost use Rattle.model.specs.Monitor.{no_report, next_marked, marked_report};
 
 use levels::Order;
 use model::{Report, Verdict};
-use records::{FREE, KIND, MARKS, RECORD_SIZE};
+use records::{FREE, KIND, Lent, MARKS, RECORD_SIZE};
 use rounds::Spread;
-use rows::NUMBERS;
+use rows::{NUMBERS, Words};
 
-// Byte f of the record of x. The bytes are lent, so their length needs no test.
-fn byte(bytes: &[u8], x: usize, f: u16) -> u8
-    requires { BytesLent bytes.now × (x < numbers) × (f < record_size) }
+// Byte f of the record of x.
+fn byte(bytes: &Lent, x: usize, f: u16) -> u8
+    requires { (x < numbers) × (f < record_size) }
     ensures { result ≡ field bytes.now x f }
 {
     bytes[RECORD_SIZE * x + (f as usize)]
@@ -46,8 +45,7 @@ fn no_report(verdict: Verdict) -> Report
 }
 
 // A bit for each marked number.
-fn marked_report(bytes: &[u8]) -> Report
-    requires { BytesLent bytes.now }
+fn marked_report(bytes: &Lent) -> Report
     ensures { (ws : List ℕ) → result ≡ marked_report (memory bytes.now ws) }
 {
     let marked = sets::with_field(bytes, MARKS as usize);
@@ -62,6 +60,9 @@ fn marked_report(bytes: &[u8]) -> Report
 pub fn report(bytes: &[u8], words: &[u64], order: &Order) -> Report
     ensures { result ≡ model·monitor.report order.now (memory bytes.now words.now) }
 {
+    let Some(bytes) = bytes.as_array() else {
+        return no_report(Verdict::State);
+    };
     if words.len() != rows::WORDS || !records::sound(bytes, order.count, order.top) {
         return no_report(Verdict::State);
     }
@@ -99,7 +100,7 @@ pub fn next_marked(report: Report, from: u16) -> u16
 }
 
 // A task is marked from outside, and its objects are marked.
-pub fn mark(bytes: &mut [u8], words: &[u64], order: &Order, task: u16) -> Verdict
+pub fn mark(bytes: &mut Lent, words: &Words, order: &Order, task: u16) -> Verdict
     requires { Ready order.now bytes.old words.now }
     ensures { left (number_of result) 0 bytes.new words.now ≡ outcome (memory bytes.old words.now) (model·events.mark order.now (memory bytes.old words.now) task) }
 {
@@ -111,8 +112,7 @@ pub fn mark(bytes: &mut [u8], words: &[u64], order: &Order, task: u16) -> Verdic
 }
 
 // The verdict of a step.
-fn step_verdict(bytes: &[u8], words: &[u64], x: u16) -> Verdict
-    requires { BytesLent bytes.now }
+fn step_verdict(bytes: &Lent, words: &Words, x: u16) -> Verdict
     ensures { (order : Order) → number_of result ≡ verdict_of (model·events.step order (memory bytes.now words.now) x) }
 {
     if records::field(bytes, x, KIND) == FREE {
@@ -129,7 +129,7 @@ fn step_verdict(bytes: &[u8], words: &[u64], x: u16) -> Verdict
 }
 
 // An unmarked thing that a marked one has a flow to is marked and, for a task, its objects.
-pub fn step(bytes: &mut [u8], words: &[u64], order: &Order, x: u16) -> Verdict
+pub fn step(bytes: &mut Lent, words: &Words, order: &Order, x: u16) -> Verdict
     requires { Ready order.now bytes.old words.now }
     ensures { left (number_of result) 0 bytes.new words.now ≡ outcome (memory bytes.old words.now) (model·events.step order.now (memory bytes.old words.now) x) }
 {
@@ -141,7 +141,7 @@ pub fn step(bytes: &mut [u8], words: &[u64], order: &Order, x: u16) -> Verdict
 }
 
 // Rounds of marking along the flows until one marks nothing; how many marked something.
-pub fn spread(bytes: &mut [u8], words: &[u64], order: &Order) -> u8
+pub fn spread(bytes: &mut Lent, words: &Words, order: &Order) -> u8
     requires { Ready order.now bytes.old words.now }
     ensures { left 0 result bytes.new words.now ≡ model·spread.spread (memory bytes.old words.now) }
 {

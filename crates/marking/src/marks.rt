@@ -2,19 +2,18 @@
 ghost use Rattle.std.specs.Prelude.{◌≡◌, ◌&&◌, List, ℕ, ◌+◌, ◌≤◌, ◌<◌};
 ghost use Rattle.bits.specs.All.{any_b};
 ghost use Rattle.rows.specs.Size.{numbers};
-ghost use Rattle.records.specs.Records.{BytesLent};
 ghost use Rattle.sets.specs.Sets.{Within, has, in_word};
 ghost use Rattle.model.specs.State.{memory, marked, has_flow};
 ghost use Rattle.model.specs.Effects.{mark_one, mark_where, object_of, effect, mark_outside, mark_thing};
 
 use crate::byte;
-use records::{DRIVER, KIND, MARKS, OBJECT, RECORD_SIZE, RECORDS};
-use rows::NUMBERS;
+use records::{DRIVER, KIND, Lent, MARKS, OBJECT, RECORD_SIZE, RECORDS};
+use rows::{NUMBERS, Words};
 use sets::Set;
 
 // x is marked. A mark that is there stays as it is.
-fn mark_one(bytes: &mut [u8], x: usize)
-    requires { BytesLent bytes.old × (x < numbers) }
+fn mark_one(bytes: &mut Lent, x: usize)
+    requires { x < numbers }
     ensures { (ws : List ℕ) → memory bytes.new ws ≡ mark_one x (memory bytes.old ws) }
 {
     let at = RECORD_SIZE * x + (MARKS as usize);
@@ -25,8 +24,8 @@ fn mark_one(bytes: &mut [u8], x: usize)
 
 // The numbers of a word are marked.
 // By hand: word by word, since one walk through both words of a set made a spread up to a sixth slower.
-fn mark_word(bytes: &mut [u8], word: u64, first: u8)
-    requires { BytesLent bytes.old × (first + 64 ≤ numbers) }
+fn mark_word(bytes: &mut Lent, word: u64, first: u8)
+    requires { first + 64 ≤ numbers }
     ensures { ((ws : List ℕ) → memory bytes.new ws ≡ mark_where (in_word word first) (memory bytes.old ws)) × Within (in_word word first) }
 {
     for x in sets::numbers_of(word, first) {
@@ -35,8 +34,7 @@ fn mark_word(bytes: &mut [u8], word: u64, first: u8)
 }
 
 // The numbers of a set are marked.
-pub fn mark_set(bytes: &mut [u8], set: Set)
-    requires { BytesLent bytes.old }
+pub fn mark_set(bytes: &mut Lent, set: Set)
     ensures { (ws : List ℕ) → memory bytes.new ws ≡ mark_where (has set) (memory bytes.old ws) }
 {
     mark_word(bytes, set.low, 0);
@@ -44,16 +42,15 @@ pub fn mark_set(bytes: &mut [u8], set: Set)
 }
 
 // x is an object of the driver.
-fn is_object_of(bytes: &[u8], driver: u16, x: usize) -> bool
-    requires { BytesLent bytes.now × (x < numbers) }
+fn is_object_of(bytes: &Lent, driver: u16, x: usize) -> bool
+    requires { x < numbers }
     ensures { (ws : List ℕ) → result ≡ object_of (memory bytes.now ws) driver x }
 {
     byte(bytes, x, KIND) == OBJECT && byte(bytes, x, DRIVER) as u16 == driver
 }
 
 // The objects of a driver are marked.
-fn mark_objects(bytes: &mut [u8], driver: u16)
-    requires { BytesLent bytes.old }
+fn mark_objects(bytes: &mut Lent, driver: u16)
     ensures { (ws : List ℕ) → memory bytes.new ws ≡ mark_where (object_of (memory bytes.old ws) driver) (memory bytes.old ws) }
 {
     for x in 0..RECORDS {
@@ -67,8 +64,7 @@ fn mark_objects(bytes: &mut [u8], driver: u16)
 const OUTSIDE: u8 = 3;
 
 // A task is marked from outside, and its objects are marked.
-pub fn mark_outside(bytes: &mut [u8], task: u16)
-    requires { BytesLent bytes.old }
+pub fn mark_outside(bytes: &mut Lent, task: u16)
     ensures { (ws : List ℕ) → memory bytes.new ws ≡ effect (mark_outside task) (memory bytes.old ws) }
 {
     records::set_field(bytes, task, MARKS, OUTSIDE);
@@ -76,8 +72,8 @@ pub fn mark_outside(bytes: &mut [u8], task: u16)
 }
 
 // A thing is marked and, for a task, its objects.
-pub fn mark_thing(bytes: &mut [u8], x: u16)
-    requires { BytesLent bytes.old × (x < numbers) }
+pub fn mark_thing(bytes: &mut Lent, x: u16)
+    requires { x < numbers }
     ensures { (ws : List ℕ) → memory bytes.new ws ≡ effect (mark_thing x) (memory bytes.old ws) }
 {
     mark_one(bytes, x as usize);
@@ -87,8 +83,7 @@ pub fn mark_thing(bytes: &mut [u8], x: u16)
 }
 
 // A marked thing has a flow to x.
-pub fn is_fed(bytes: &[u8], words: &[u64], x: u16) -> bool
-    requires { BytesLent bytes.now }
+pub fn is_fed(bytes: &Lent, words: &Words, x: u16) -> bool
     ensures { result ≡ any_b numbers (λ y. marked (memory bytes.now words.now) y && has_flow (memory bytes.now words.now) y x) }
 {
     for y in 0..NUMBERS {

@@ -1,17 +1,17 @@
 // The rounds of a spread, on sets.
 ghost use Rattle.std.specs.Prelude.{◌≡◌, true, ◌+◌, ◌/◌, ◌%◌, ◌≤◌, length};
 ghost use Rattle.bits.specs.All.{any_b};
-ghost use Rattle.rows.specs.Size.{row_size, numbers, WordsLent};
+ghost use Rattle.rows.specs.Size.{row_size, numbers};
 ghost use Rattle.rows.specs.Rows.{add_cell};
-ghost use Rattle.records.specs.Records.{BytesLent, driver, is_object};
+ghost use Rattle.records.specs.Records.{driver, is_object};
 ghost use Rattle.sets.specs.Sets.{last, Within, has, set_of, in_word, TableLent};
 ghost use Rattle.model.specs.State as state;
 ghost use Rattle.model.specs.State.{memory};
 ghost use Rattle.marking.specs.Rounds.{OwnedRows, Driven, Put, own_row, round_set, spread_sets};
 
 use crate::byte;
-use records::{DRIVER, KIND, OBJECT, RECORDS};
-use rows::ROW_WORDS;
+use records::{DRIVER, KIND, Lent, OBJECT, RECORDS};
+use rows::{ROW_WORDS, Words};
 use sets::Set;
 
 // The words of the rows of the drivers' objects, one row for each number, and of one more for the drivers themselves.
@@ -31,16 +31,16 @@ fn put_into(owned: &mut [u64], start: usize, x: u8)
 }
 
 // The driver that the record of x names.
-fn driver_of(bytes: &[u8], x: u8) -> u8
-    requires { BytesLent bytes.now × (x ≤ last) }
+fn driver_of(bytes: &Lent, x: u8) -> u8
+    requires { x ≤ last }
     ensures { (result ≡ driver bytes.now x) × (Driven bytes.now → is_object bytes.now x ≡ true → result ≤ last) }
 {
     byte(bytes, x as usize, DRIVER)
 }
 
 // An object is put into the row of its driver, and its driver into the drivers' row.
-fn own_row(bytes: &[u8], owned: &mut [u64], x: u8)
-    requires { BytesLent bytes.now × OwnedRows owned.old × Driven bytes.now × (x ≤ last) }
+fn own_row(bytes: &Lent, owned: &mut [u64], x: u8)
+    requires { OwnedRows owned.old × Driven bytes.now × (x ≤ last) }
     ensures { owned.new ≡ own_row row_size bytes.now x owned.old }
 {
     if byte(bytes, x as usize, KIND) == OBJECT {
@@ -51,8 +51,8 @@ fn own_row(bytes: &[u8], owned: &mut [u64], x: u8)
 }
 
 // The same for the numbers of a word.
-fn own_word(bytes: &[u8], owned: &mut [u64], word: u64, first: u8)
-    requires { BytesLent bytes.now × OwnedRows owned.old × Driven bytes.now × (first + 64 ≤ numbers) }
+fn own_word(bytes: &Lent, owned: &mut [u64], word: u64, first: u8)
+    requires { OwnedRows owned.old × Driven bytes.now × (first + 64 ≤ numbers) }
     ensures { Put row_size bytes.now (in_word word first) owned.old owned.new × Within (in_word word first) }
 {
     for x in sets::numbers_of(word, first) {
@@ -61,8 +61,8 @@ fn own_word(bytes: &[u8], owned: &mut [u64], word: u64, first: u8)
 }
 
 // The same for the numbers of a set.
-fn own_rows(bytes: &[u8], owned: &mut [u64], set: Set)
-    requires { BytesLent bytes.now × OwnedRows owned.old × Driven bytes.now }
+fn own_rows(bytes: &Lent, owned: &mut [u64], set: Set)
+    requires { OwnedRows owned.old × Driven bytes.now }
     ensures { Put row_size bytes.now (has set) owned.old owned.new }
 {
     own_word(bytes, owned, set.low, 0);
@@ -92,8 +92,8 @@ pub struct Spread {
 }
 
 // The rounds go on until one marks nothing. What older sources feed or drive is marked by then, so only the things that the last round marked are sources of the next.
-pub fn spread_sets(bytes: &[u8], words: &[u64], marked: Set) -> Spread
-    requires { BytesLent bytes.now × WordsLent words.now × Driven bytes.now × (marked ≡ set_of (state.marked (memory bytes.now words.now))) × (any_b numbers (has marked) ≡ true) }
+pub fn spread_sets(bytes: &Lent, words: &Words, marked: Set) -> Spread
+    requires { Driven bytes.now × (marked ≡ set_of (state.marked (memory bytes.now words.now))) × (any_b numbers (has marked) ≡ true) }
     ensures { result ≡ spread_sets (memory bytes.now words.now) }
 {
     let before = sets::without(sets::with_field(bytes, KIND as usize), marked);

@@ -38,6 +38,9 @@ pub const RECORDS: usize = NUMBERS as usize;
 
 pub const BYTES: usize = RECORD_SIZE * RECORDS;
 
+// The bytes that a caller lends, when their length has been tested.
+pub type Lent = [u8; BYTES];
+
 // The records are tested in groups, so that a run of free ones costs few tests.
 const GROUP_SIZE: usize = 8;
 
@@ -157,9 +160,6 @@ pub fn clear_all(bytes: &mut [u8])
 }
 
 // ---- soundness. A record is read as one number of eight bytes, which the compiler turns into one load.
-
-// The bytes that a caller lends, when their length has been tested.
-type Lent = [u8; BYTES];
 
 // The whole record of x as one number.
 #[tactic(auto, unfolding(crate::specs::WordLaws::word, crate::specs::WordLaws::half, crate::specs::Records::field))]

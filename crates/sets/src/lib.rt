@@ -1,5 +1,4 @@
 // Sets of numbers, a bit for each, in two words.
-// By hand: `BytesLent` and `TableLent` stand in each contract, since what the public functions take stays a slice.
 #![tactic(auto)]
 
 mod numbers;
@@ -11,11 +10,11 @@ ghost use Rattle.bits.specs.BitLaws.{low_word};
 ghost use Rattle.bits.specs.All.{any_b};
 ghost use Rattle.rows.specs.Rows.{cell, join_row};
 ghost use Rattle.rows.specs.Size.{row_size, numbers};
-ghost use Rattle.records.specs.Records.{record_size, BytesLent, field};
+ghost use Rattle.records.specs.Records.{record_size, field};
 ghost use Rattle.sets.specs.Sets.{last, Within, has, set_of, in_word, joined, TableLent};
 
 pub use numbers::numbers_of;
-use records::RECORD_SIZE;
+use records::{Lent, RECORD_SIZE};
 use rows::ROW_WORDS;
 
 // Number x is bit x of the low word, or bit x - 64 of the high one.
@@ -26,8 +25,8 @@ pub struct Set {
 }
 
 // Of eight numbers, from the first on: a bit for each whose byte f is not zero. The last is taken first, so that a turn doubles what is there and needs no place.
-fn eight_with(bytes: &[u8], first: u8, f: usize) -> u64
-    requires { BytesLent bytes.now × (first + 8 ≤ numbers) × (f < record_size) }
+fn eight_with(bytes: &Lent, first: u8, f: usize) -> u64
+    requires { (first + 8 ≤ numbers) × (f < record_size) }
     ensures { result ≡ low_word (λ i. not (eqb (field bytes.now (first + i) f) 0)) 8 }
 {
     let mut w: u64 = 0;
@@ -38,8 +37,8 @@ fn eight_with(bytes: &[u8], first: u8, f: usize) -> u64
 }
 
 // The word of 64 numbers, from the first on: whose byte f is not zero.
-fn word_with(bytes: &[u8], first: u8, f: usize) -> u64
-    requires { BytesLent bytes.now × (first + 64 ≤ numbers) × (f < record_size) }
+fn word_with(bytes: &Lent, first: u8, f: usize) -> u64
+    requires { (first + 64 ≤ numbers) × (f < record_size) }
     ensures { result ≡ word_of (λ i. not (eqb (field bytes.now (first + i) f) 0)) }
 {
     let mut w: u64 = 0;
@@ -51,8 +50,8 @@ fn word_with(bytes: &[u8], first: u8, f: usize) -> u64
 
 // The numbers whose byte f is not zero.
 #[tactic(auto, using(crate::specs::SetLaws::set_pair))]
-pub fn with_field(bytes: &[u8], f: usize) -> Set
-    requires { BytesLent bytes.now × (f < record_size) }
+pub fn with_field(bytes: &Lent, f: usize) -> Set
+    requires { f < record_size }
     ensures { result ≡ set_of (λ x. not (eqb (field bytes.now x f) 0)) }
 {
     Set {

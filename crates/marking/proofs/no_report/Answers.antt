@@ -1,4 +1,3 @@
-use Rattle.std.proofs.Common.{refl}
 use Rattle.model.specs.Monitor.{no_report}
 use Rattle.marking.proofs.no_report.Goals as goal
 

@@ -12,7 +12,7 @@ returns-then-is_empty c = spread_none _ c.requires.0 c.with_field-sources.ensure
 pub spread_sets-rounds-requires : goal.spread_sets-rounds-requires
 unfolding marked
 spread_sets-rounds-requires c =
-    (c.requires.0, c.requires.1, sound_driven c.args.order.now c.args.bytes.now c.requires.3, c.with_field-sources.ensures, not-false _ (sym c.is_empty.ensures ∙ c.if-is_empty.false))
+    (sound_driven c.args.order.now c.args.bytes.now c.requires.3, c.with_field-sources.ensures, not-false _ (sym c.is_empty.ensures ∙ c.if-is_empty.false))
 
 pub returns : goal.returns
 returns c = spread_is _ c.requires.0 c.spread_sets-rounds.ensures (c.mark_set.ensures _)

@@ -15,7 +15,7 @@ mark_thing-requires c =
     let a = c.args in
     let m = memory a.bytes.now a.words.now in
     let t = done_tests (step a.order.now m a.x) refl (rw (sym (c.step_verdict-verdict.ensures a.order.now) ∙ ap number_of c.in-Granted.is)) in
-    (c.requires.0, used_below m a.x c.requires.0 t.0)
+    used_below m a.x c.requires.0 t.0
 
 pub returns-in-Granted : goal.returns-in-Granted
 unfolding step effects

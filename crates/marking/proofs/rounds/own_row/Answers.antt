@@ -9,13 +9,13 @@ use Rattle.marking.proofs.rounds.own_row.Goals.{After-driver_of-driver}
 -- the driver of an object is a number
 below : (c : After-driver_of-driver) → c.driver_of-driver.result ≤ last
 unfolding is_object
-below c = c.driver_of-driver.ensures.1 c.requires.2 (eq-eqb _ 2 (sym c.byte.ensures ∙ c.if-byte-eq-OBJECT.true))
+below c = c.driver_of-driver.ensures.1 c.requires.1 (eq-eqb _ 2 (sym c.byte.ensures ∙ c.if-byte-eq-OBJECT.true))
 
 pub put_into-requires : goal.put_into-requires
-put_into-requires c = (omega arith, omega (arith, below (goal.at.put_into-requires c).After-driver_of-driver, c.requires.1), c.requires.3)
+put_into-requires c = (omega arith, omega (arith, below (goal.at.put_into-requires c).After-driver_of-driver, c.requires.0), c.requires.2)
 
 pub put_into-requires-then-byte-eq-OBJECT : goal.put_into-requires-then-byte-eq-OBJECT
-put_into-requires-then-byte-eq-OBJECT c = (refl, omega (arith, c.put_into.auto.owned, c.requires.1), below (goal.at.put_into-requires-then-byte-eq-OBJECT c).After-driver_of-driver)
+put_into-requires-then-byte-eq-OBJECT c = (refl, omega (arith, c.put_into.auto.owned, c.requires.0), below (goal.at.put_into-requires-then-byte-eq-OBJECT c).After-driver_of-driver)
 
 pub returns-then-byte-eq-OBJECT : goal.returns-then-byte-eq-OBJECT
 unfolding own_row is_object

@@ -1,9 +1,9 @@
-use Rattle.std.proofs.Common.{◌≡◌, not, ◌&&◌, List, ℕ, ◌+◌, ◌*◌, sym, ◌∙◌, replicate}
+use Rattle.std.proofs.Common.{◌≡◌, not, ◌&&◌, List, ℕ, ◌+◌, ◌*◌, sym, ◌∙◌, replicate, rules}
 use Rattle.std.proofs.Math.Dec.{eqb}
 use borrow.Author.Tests.{not-true, not-false}
 use Rattle.rows.specs.Size.{row_size, numbers}
 use Rattle.rows.proofs.RowLaws.{cell_zeros}
-use Rattle.records.specs.Records.{field}
+use Rattle.records.specs.Records.{BytesLent, field}
 use Rattle.sets.specs.declared.Set.{Set}
 use Rattle.sets.specs.Sets.{has, set_of}
 use Rattle.model.specs.State.{memory, in_use, marked}
@@ -23,28 +23,31 @@ first bs ws a b e = unmarked_set (memory bs ws) a b e
 pub returns-then-is_empty : goal.returns-then-is_empty
 returns-then-is_empty c =
     let a = c.args in
-    sets_none _ c.requires.0 (first a.bytes.now a.words.now c.with_field.ensures c.requires.3 c.without-before.ensures) (not-true _ (sym c.is_empty.ensures ∙ c.if-is_empty.true))
+    let lent : BytesLent a.bytes.now = search rules in
+    sets_none _ lent (first a.bytes.now a.words.now c.with_field.ensures c.requires.1 c.without-before.ensures) (not-true _ (sym c.is_empty.ensures ∙ c.if-is_empty.true))
 
 pub loop-owned-init : goal.loop-owned-init
 loop-owned-init c =
     let a = c.args in
-    spreading_first (memory a.bytes.now a.words.now) c.requires.3 c.requires.4 (first a.bytes.now a.words.now c.with_field.ensures c.requires.3 c.without-before.ensures)
+    spreading_first (memory a.bytes.now a.words.now) c.requires.1 c.requires.2 (first a.bytes.now a.words.now c.with_field.ensures c.requires.1 c.without-before.ensures)
 
 -- the rows of the objects of drivers
 rows : (c : After-own_rows) → Table (memory c.args.bytes.now c.args.words.now) c.own_rows.new.owned
 rows c =
     let a = c.args in
-    let f = first a.bytes.now a.words.now c.with_field.ensures c.requires.3 c.without-before.ensures in
+    let f = first a.bytes.now a.words.now c.with_field.ensures c.requires.1 c.without-before.ensures in
     owned_table _ f (replicate (row_size * (numbers + 1)) 0) _ (cell_zeros row_size (row_size * (numbers + 1))) c.own_rows.ensures
 
 pub loop-owned-preserved : goal.loop-owned-preserved
 loop-owned-preserved c =
+    let lent : BytesLent c.args.bytes.now = search rules in
     let t = rows (goal.at.loop-owned-preserved c).After-own_rows in
-    spreading_next _ c.requires.0 _ t c.loop-owned.invariant c.round-new.ensures (not-false _ (sym c.is_empty-in-loop-owned.ensures ∙ c.if-is_empty-2.false)) c.without-unmarked.ensures
+    spreading_next _ lent _ t c.loop-owned.invariant c.round-new.ensures (not-false _ (sym c.is_empty-in-loop-owned.ensures ∙ c.if-is_empty-2.false)) c.without-unmarked.ensures
 
 pub returns : goal.returns
 returns c =
     let a = c.args in
-    let f = first a.bytes.now a.words.now c.with_field.ensures c.requires.3 c.without-before.ensures in
+    let lent : BytesLent a.bytes.now = search rules in
+    let f = first a.bytes.now a.words.now c.with_field.ensures c.requires.1 c.without-before.ensures in
     let t = rows (goal.at.returns c).After-own_rows in
-    spreading_end _ c.requires.0 _ t c.loop-owned.invariant c.round-new.ensures (not-true _ (sym c.is_empty-in-loop-owned.ensures ∙ c.if-is_empty-2.true)) f c.without-all.ensures
+    spreading_end _ lent _ t c.loop-owned.invariant c.round-new.ensures (not-true _ (sym c.is_empty-in-loop-owned.ensures ∙ c.if-is_empty-2.true)) f c.without-all.ensures
