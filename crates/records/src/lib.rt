@@ -157,7 +157,7 @@ pub fn clear_all(bytes: &mut [u8])
 // ---- soundness. A record is read as one number of eight bytes, which the compiler turns into one load.
 
 // The bytes that a caller lends, when their length has been tested.
-type Lent = [u8; BYTES];
+pub type Lent = [u8; BYTES];
 
 // The whole record of x as one number.
 #[tactic(auto, unfolding(crate::specs::WordLaws::word, crate::specs::WordLaws::half, crate::specs::Records::field))]

@@ -19,6 +19,9 @@ const ALL_ROWS: u16 = NUMBERS * TABLES;
 
 pub const WORDS: usize = ROW_WORDS * (ALL_ROWS as usize);
 
+// The words that a caller lends, when their length has been tested.
+pub type Words = [u64; WORDS];
+
 // The rows at which the accesses begin.
 pub const READS: u16 = NUMBERS;
 
