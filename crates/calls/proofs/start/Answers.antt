@@ -1,4 +1,4 @@
-use Rattle.std.proofs.Common.{◌≡◌, true, rules, sym, ◌∙◌, ap}
+use Rattle.std.proofs.Common.{rules, sym, ◌∙◌, ap}
 use Rattle.rows.specs.Size.{WordsLent}
 use Rattle.records.specs.Records.{BytesLent}
 use Rattle.model.specs.State.{Memory, memory}
