@@ -153,11 +153,7 @@ fn last_rows(view: &View, x: u16, verdict: Verdict) -> Verdict
     }
     let empty = is_empty(view, x);
     let View { bytes, words, .. } = *view;
-    let row = unless(
-        !feeds_unmarked(bytes, words, x),
-        Verdict::Feeding,
-        verdict,
-    );
+    let row = unless(!feeds_unmarked(bytes, words, x), Verdict::Feeding, verdict);
     unless(empty, Verdict::Filled, row)
 }
 
