@@ -1,7 +1,7 @@
 -- The entry of a call or of a load, by the way it was answered.
 -- Assumes nothing.
 use mathlib.Core.Path.{◌≡◌, refl, sym, ap, ◌∙◌}
-use mathlib.Core.Bool.{Bool, true, false, cond, not, ◌&&◌}
+use mathlib.Core.Bool.{Bool, true, false, cond, ◌&&◌}
 use mathlib.Core.List.{List}
 use Prim.Native.Nat.{ℕ, ◌<◌}
 use lib.Dec.{eqb}
@@ -28,7 +28,7 @@ use Rattle.model.specs.Told.{no_word, word_of}
 use Rattle.tallies.specs.declared.Entry.{Entry}
 use Rattle.tallies.specs.Entries.{InList, Enters}
 use Rattle.calls.specs.Entered.{CallEntry, LoadEntry, untold}
-use Rattle.calls.proofs.Rows.{passed, stopped, no_rounds, unfit, disordered}
+use Rattle.calls.proofs.Rows.{passed, stopped, no_rounds, unlent, unfit, disordered}
 
 -- what `on_zero` says of its entry
 abbrev pub OnZero : Entry → ℕ → Type 0
@@ -52,14 +52,19 @@ module _ (o : Order) (m : Memory) (call : Call) where
   unfolding is_start
   start_entry e r {v = v} z d = on_zero m call r z (ap (λ (c : Call). counted_on m c v) e ∙ start_on_zero m v) (ap (λ (c : Call). is_start c && eqb v granted) e) (d ∙ ap (perform o m) (sym e))
 
+  -- a call that is lent bytes or words of another length
+  pub unlent_entry : lengths_fit m ≡ false → (r : Entry) → OnZero r row_state → CallEntry m call (perform o m call) r m.bytes m.words
+  unfolding counted_on past_order
+  unlent_entry f r z = on_zero m call r z refl (and-false (is_start call)) (sym (unlent o m call f))
+
   module _ (later : call ≡ Start → ⊥) where
-    pub state_entry : not (lengths_fit m && sound o m.bytes) ≡ true → (r : Entry) → OnZero r row_state → CallEntry m call (perform o m call) r m.bytes m.words
+    pub state_entry : sound o m.bytes ≡ false → (r : Entry) → OnZero r row_state → CallEntry m call (perform o m call) r m.bytes m.words
     unfolding counted_on past_order
     state_entry f r z = on_zero m call r z refl (and-false (is_start call)) (sym (unfit o m call later f))
 
-    pub order_entry : not (lengths_fit m && sound o m.bytes) ≡ false → not (order_passes o) ≡ true → (r : Entry) → OnZero r row_order → CallEntry m call (perform o m call) r m.bytes m.words
+    pub order_entry : lengths_fit m ≡ true → sound o m.bytes ≡ true → order_passes o ≡ false → (r : Entry) → OnZero r row_order → CallEntry m call (perform o m call) r m.bytes m.words
     unfolding counted_on past_order
-    order_entry f p r z = on_zero m call r z refl (and-false (is_start call)) (sym (disordered o m call later f p))
+    order_entry l f p r z = on_zero m call r z refl (and-false (is_start call)) (sym (disordered o m call later l f p))
 
     -- past rows 2 and 3: on the asker's
     pub event_entry : Ready o m.bytes m.words → (v : Verdict) {n k : ℕ} {bs ws : List ℕ} → left (number_of v) n bs ws ≡ perform o m call → k ≡ asker m call → k < numbers

@@ -1,7 +1,7 @@
 -- A load, by what it meets: a start's rows, the text's form and depth, and then its calls.
 -- Assumes nothing.
 use mathlib.Core.Path.{◌≡◌, sym, ap, subst, ◌∙◌}
-use mathlib.Core.Bool.{true}
+use mathlib.Core.Bool.{true, false}
 use mathlib.Core.Logic.{inl, inr}
 use mathlib.Core.List.{List}
 use Prim.Native.Nat.{ℕ, ◌≤◌, ◌<◌}
@@ -29,6 +29,11 @@ module _ (o : Order) (m : Memory) (t : List ℕ) where
   pub load_laid : lengths_fit m ≡ true → order_passes o ≡ true → laid_out o (settled t) ≡ load o m t
   unfolding load
   load_laid l p = sym (passed _ row_state m _ l ∙ passed _ row_order m _ p)
+
+  -- lent bytes or words of another length
+  pub load_unlent : lengths_fit m ≡ false → left row_state 0 m.bytes m.words ≡ load o m t
+  unfolding load
+  load_unlent l = sym (stopped _ row_state m _ l)
 
   module _ {v : ℕ} {bs ws : List ℕ} (is : left v 0 bs ws ≡ start o m) where
     pub start_refused : slipped < v → left v 0 bs ws ≡ load o m t

@@ -1,23 +1,44 @@
 -- Rows 2 and 3 of the table, as a function that leaves at them meets them.
 -- Assumes nothing.
 use mathlib.Core.Path.{◌≡◌, refl, sym, ap, ◌∙◌}
-use mathlib.Core.Bool.{Bool, true, false, not, ◌&&◌}
+use mathlib.Core.Bool.{Bool, true, false, ◌&&◌}
 use mathlib.Core.List.{List}
+use lib.ListN.{length}
 use Prim.Native.Nat.{ℕ}
-use borrow.Author.Tests.{not-true, not-false}
-use Rattle.bits.specs.AllLaws.{and_l, and_r}
+use lib.Dec.{eqb}
+use borrow.Author.Tests.{eq-eqb, ne_eqb}
+use Rattle.bits.specs.AllLaws.{and_i, and-false}
+use Rattle.rows.specs.Size.{present, lent_words, WordsLent}
 use Rattle.levels.specs.declared.Order.{Order}
 use Rattle.levels.specs.Order.{order_passes}
-use Rattle.records.specs.Records.{sound}
+use Rattle.records.specs.Records.{lent_bytes, BytesLent, sound}
 use Rattle.model.specs.declared.Verdict.{Verdict}
 use Rattle.model.specs.Verdicts.{row_state, row_order, number_of}
 use Rattle.model.specs.State.{Memory, lengths_fit}
 use Rattle.model.specs.Ready.{Ready}
 use Rattle.model.specs.Events.{Outcome, left}
-use Rattle.model.specs.Monitor.{perform, fitted, refusal, refused_unless}
-use Rattle.model.proofs.ReadyLaws.{sound_ready, through}
+use Rattle.model.specs.Monitor.{perform, start, fitted, refusal, refused_unless}
+use Rattle.model.proofs.TableLaws.{by_call}
+use Rattle.model.proofs.ReadyLaws.{through}
 use Rattle.model.specs.declared.Call.{Call}
 use Rattle.model.specs.declared.Call.TheVariants.{Start, Read, Write, Execute, Create, CreateRoot, Move, Delete, CallTask, Invoke, Pass, Post, Find, Mark, Step, Spread}
+
+-- ---- the lengths, which are arrays' once they have been tested
+
+module _ (m : Memory) where
+  pub lengths_right : BytesLent m.bytes → WordsLent m.words → lengths_fit m ≡ true
+  unfolding lengths_fit
+  lengths_right b w = and_i (eq-eqb _ _ b) (eq-eqb _ _ w)
+
+  pub bytes_wrong : (BytesLent m.bytes → ⊥) → lengths_fit m ≡ false
+  unfolding lengths_fit
+  bytes_wrong h = ap (λ b. b && eqb (length m.words) (lent_words present)) (ne_eqb _ _ h)
+
+  pub words_wrong : (WordsLent m.words → ⊥) → lengths_fit m ≡ false
+  unfolding lengths_fit
+  words_wrong h = let fits = eqb (length m.bytes) (lent_bytes present) in ap (λ b. fits && b) (ne_eqb _ _ h) ∙ and-false fits
+
+-- ---- the rows
 
 pub passed : (ok : Bool) (n : ℕ) (m : Memory) (out : Outcome) → ok ≡ true → refused_unless ok n m out ≡ out
 unfolding refused_unless
@@ -46,21 +67,24 @@ judged o m (Mark e) h = (_, refl)
 judged o m (Step x) h = (_, refl)
 judged o m Spread h = (_, refl)
 
-module _ (o : Order) (m : Memory) (c : Call) (later : c ≡ Start → ⊥) where
-  pub unfit : not (lengths_fit m && sound o m.bytes) ≡ true → perform o m c ≡ record { verdict = row_state; rounds = 0; memory = m }
-  unfolding fitted
-  unfit e = (judged o m c later).1 ∙ stopped _ row_state m _ (not-true _ e)
+module _ (o : Order) (m : Memory) (c : Call) where
+  -- lengths that do not fit are refused with 2, whatever the call
+  pub unlent : lengths_fit m ≡ false → perform o m c ≡ record { verdict = row_state; rounds = 0; memory = m }
+  unfolding start fitted
+  unlent e =
+      let f = ap (λ b. b && sound o m.bytes) e in
+      by_call (λ out. out ≡ record { verdict = row_state; rounds = 0; memory = m }) o m (stopped _ row_state m _ e) (λ _ _. stopped _ row_state m _ f) (stopped _ row_state m _ f) c
 
-  pub disordered : not (lengths_fit m && sound o m.bytes) ≡ false → not (order_passes o) ≡ true → perform o m c ≡ record { verdict = row_order; rounds = 0; memory = m }
-  unfolding fitted
-  disordered f e = (judged o m c later).1 ∙ passed _ row_state m _ (not-false _ f) ∙ stopped _ row_order m _ (not-true _ e)
+  module _ (later : c ≡ Start → ⊥) where
+    pub unfit : sound o m.bytes ≡ false → perform o m c ≡ record { verdict = row_state; rounds = 0; memory = m }
+    unfolding fitted
+    unfit e = (judged o m c later).1 ∙ stopped _ row_state m _ (ap (λ b. lengths_fit m && b) e ∙ and-false (lengths_fit m))
+
+    pub disordered : lengths_fit m ≡ true → sound o m.bytes ≡ true → order_passes o ≡ false → perform o m c ≡ record { verdict = row_order; rounds = 0; memory = m }
+    unfolding fitted
+    disordered l s e = (judged o m c later).1 ∙ passed _ row_state m _ (and_i l s) ∙ stopped _ row_order m _ e
 
 -- ---- behind them
-
-pub ready : (o : Order) (m : Memory) → not (lengths_fit m && sound o m.bytes) ≡ false → not (order_passes o) ≡ false → Ready o m.bytes m.words
-ready o m f p =
-    let both = not-false (lengths_fit m && sound o m.bytes) f in
-    sound_ready o m (not-false _ p) (and_l (lengths_fit m) (sound o m.bytes) both, and_r (lengths_fit m) (sound o m.bytes) both)
 
 -- a verdict of no rounds
 pub no_rounds : {out : Outcome} {v w n : ℕ} {bs ws : List ℕ} → (w ≡ v) × (n ≡ 0) → left v 0 bs ws ≡ out → left w n bs ws ≡ out

@@ -1,12 +1,11 @@
 // Every call and load over a lent memory: judged, carried out, told and entered in its list of tallies, whichever engine decides.
 #![tactic(auto)]
 
-ghost use Rattle.std.specs.Prelude.{◌≡◌, true, ◌&&◌, eqb};
+ghost use Rattle.std.specs.Prelude.{◌≡◌, true, eqb};
 ghost use Rattle.rows.specs.Size.{numbers};
-ghost use Rattle.records.specs.Records.{sound};
 ghost use Rattle.levels.specs.Order.{order_passes};
 ghost use Rattle.model.specs.Verdicts.{granted, row_state, number_of};
-ghost use Rattle.model.specs.State.{memory, lengths_fit};
+ghost use Rattle.model.specs.State.{memory};
 ghost use Rattle.model.specs.Ready.{Ready};
 ghost use Rattle.model.specs.Events.{left};
 ghost use Rattle.model.specs.Monitor as model;
@@ -26,7 +25,8 @@ use events::{delete, move_object};
 use layout::Fault;
 use levels::Order;
 use model::{Answer, Call, Told, Verdict};
-use records::{Record, TASK};
+use records::{Lent, Record, TASK};
+use rows::Words;
 use table::Engine;
 use tallies::Entry;
 
@@ -79,16 +79,9 @@ impl From<Request> for Call {
     }
 }
 
-// Both lengths are right.
-fn lengths_fit(bytes: &[u8], words: &[u64]) -> bool
-    ensures { result ≡ lengths_fit (memory bytes.now words.now) }
-{
-    (bytes.len() == records::BYTES) & (words.len() == rows::WORDS)
-}
-
 // The core alone, at the top; all else zero.
-fn set_up(bytes: &mut [u8], words: &mut [u64], order: &Order)
-    requires { (lengths_fit (memory bytes.old words.old) ≡ true) × (order_passes order.now ≡ true) }
+fn set_up(bytes: &mut Lent, words: &mut Words, order: &Order)
+    requires { order_passes order.now ≡ true }
     ensures { memory bytes.new words.new ≡ started order.now }
 {
     let top = (order.top % 0x100) as u8;
@@ -103,29 +96,15 @@ fn set_up(bytes: &mut [u8], words: &mut [u64], order: &Order)
     rows::clear_all(words);
 }
 
-// A start tests lengths and the order only.
-fn start(bytes: &mut [u8], words: &mut [u64], order: &Order) -> Verdict
+// A start tests the order only, once the lengths are right.
+fn start(bytes: &mut Lent, words: &mut Words, order: &Order) -> Verdict
     ensures { left (number_of result) 0 bytes.new words.new ≡ model.start order.now (memory bytes.old words.old) }
 {
-    if !lengths_fit(bytes, words) {
-        return Verdict::State;
-    }
     if !levels::order_passes(*order) {
         return Verdict::Order;
     }
     set_up(bytes, words, order);
     Verdict::Granted
-}
-
-// Row 2 of every call but a start.
-fn fits(bytes: &[u8], words: &[u64], order: &Order) -> bool
-    ensures { result ≡ (lengths_fit (memory bytes.now words.now) && sound order.now bytes.now) }
-{
-    if lengths_fit(bytes, words) {
-        records::sound(bytes, order.count, order.top)
-    } else {
-        false
-    }
 }
 
 // What a call comes to, before the driver is told.
@@ -163,7 +142,7 @@ fn on_zero(verdict: Verdict) -> Entry
 }
 
 // A call that has passed rows 2 and 3; a start tests for itself.
-fn event<E: Engine>(bytes: &mut [u8], words: &mut [u64], order: &Order, call: Call) -> Outcome
+fn event<E: Engine>(bytes: &mut Lent, words: &mut Words, order: &Order, call: Call) -> Outcome
     requires { Ready order.now bytes.old words.old }
     ensures { left (number_of result.verdict) result.rounds bytes.new words.new ≡ model.perform order.now (memory bytes.old words.old) call }
 {
@@ -190,14 +169,14 @@ fn event<E: Engine>(bytes: &mut [u8], words: &mut [u64], order: &Order, call: Ca
     }
 }
 
-// A call that is lent a list of the right length: done on bytes and words, to be entered afterwards.
-fn carry_out<E: Engine>(bytes: &mut [u8], words: &mut [u64], order: &Order, call: Call) -> Entry
+// A call that is lent bytes, words and a list of the right lengths: done on bytes and words, to be entered afterwards.
+fn carry_out<E: Engine>(bytes: &mut Lent, words: &mut Words, order: &Order, call: Call) -> Entry
     ensures { CallEntry (memory bytes.old words.old) call (model.perform order.now (memory bytes.old words.old) call) result bytes.new words.new }
 {
     if let Call::Start = call {
         return on_zero(start(bytes, words, order));
     }
-    if !fits(bytes, words, order) {
+    if !records::sound(bytes, order.count, order.top) {
         return on_zero(Verdict::State);
     }
     if !levels::order_passes(*order) {
@@ -208,7 +187,7 @@ fn carry_out<E: Engine>(bytes: &mut [u8], words: &mut [u64], order: &Order, call
     untold(number, false, outcome)
 }
 
-// The same for a list of so many records: another length is refused with 2.
+// The same for what a caller lends, and a list of so many records: another length is refused with 2.
 fn judge<E: Engine>(
     bytes: &mut [u8],
     words: &mut [u64],
@@ -221,6 +200,12 @@ fn judge<E: Engine>(
     if lent != records::RECORDS {
         return on_zero(Verdict::State);
     }
+    let Some(bytes) = bytes.as_mut_array() else {
+        return on_zero(Verdict::State);
+    };
+    let Some(words) = words.as_mut_array() else {
+        return on_zero(Verdict::State);
+    };
     carry_out::<E>(bytes, words, order, call)
 }
 
@@ -266,7 +251,7 @@ pub fn perform<E: Engine>(
 }
 
 // The calls of a layout's text on the state of a start, which is left again if one of them is refused.
-fn make<E: Engine>(bytes: &mut [u8], words: &mut [u64], order: &Order, text: &[u8]) -> Verdict
+fn make<E: Engine>(bytes: &mut Lent, words: &mut Words, order: &Order, text: &[u8]) -> Verdict
     requires { Ready order.now bytes.old words.old }
     ensures { left (number_of result) 0 bytes.new words.new ≡ whole order.now (in_turn order.now (calls_in text.now) (memory bytes.old words.old)) }
 {
@@ -278,7 +263,7 @@ fn make<E: Engine>(bytes: &mut [u8], words: &mut [u64], order: &Order, text: &[u
 }
 
 // A load is a start, and then the text: its form, its depth, and its calls.
-fn load<E: Engine>(bytes: &mut [u8], words: &mut [u64], order: &Order, text: &[u8]) -> Verdict
+fn load<E: Engine>(bytes: &mut Lent, words: &mut Words, order: &Order, text: &[u8]) -> Verdict
     ensures { left (number_of result) 0 bytes.new words.new ≡ loads.load order.now (memory bytes.old words.old) text.now }
 {
     let begun = start(bytes, words, order);
@@ -292,7 +277,7 @@ fn load<E: Engine>(bytes: &mut [u8], words: &mut [u64], order: &Order, text: &[u
     }
 }
 
-// A load that is lent a list of so many records.
+// A load on what a caller lends, and a list of so many records.
 pub fn load_lent<E: Engine>(
     bytes: &mut [u8],
     words: &mut [u64],
@@ -305,6 +290,12 @@ pub fn load_lent<E: Engine>(
     if lent != records::RECORDS {
         return on_zero(Verdict::State);
     }
+    let Some(bytes) = bytes.as_mut_array() else {
+        return on_zero(Verdict::State);
+    };
+    let Some(words) = words.as_mut_array() else {
+        return on_zero(Verdict::State);
+    };
     on_zero(load::<E>(bytes, words, order, text))
 }
 

@@ -14,11 +14,12 @@ mod judge;
 use decisions::facts::View;
 use levels::Order;
 use model::Verdict;
-use records::ROOT_SIGN;
+use records::{Lent, ROOT_SIGN};
+use rows::Words;
 
 pub fn execute(
-    bytes: &mut [u8],
-    words: &mut [u64],
+    bytes: &mut Lent,
+    words: &mut Words,
     order: &Order,
     creator: u16,
     image: u16,
@@ -42,8 +43,8 @@ pub fn execute(
 }
 
 pub fn create(
-    bytes: &mut [u8],
-    words: &mut [u64],
+    bytes: &mut Lent,
+    words: &mut Words,
     order: &Order,
     creator: u16,
     driver: u16,
@@ -67,8 +68,8 @@ pub fn create(
 }
 
 pub fn create_root(
-    bytes: &mut [u8],
-    words: &mut [u64],
+    bytes: &mut Lent,
+    words: &mut Words,
     order: &Order,
     creator: u16,
     driver: u16,

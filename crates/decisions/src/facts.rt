@@ -9,42 +9,60 @@ ghost use Rattle.model.specs.Ready.{Ready};
 ghost use Rattle.decisions.specs.Facts.{writes, both_write};
 
 use levels::Order;
-use records::{CONTAINER, DRIVER, FREE, KIND, LEVEL, MARKS, READ_LEVEL};
-use rows::{NUMBERS, READS, WRITES};
+use records::{CONTAINER, DRIVER, FREE, KIND, LEVEL, Lent, MARKS, OBJECT, READ_LEVEL, TASK};
+use rows::{NUMBERS, READS, WRITES, Words};
 
 // A state that has passed rows 2 and 3, as an event looks at it: the lengths are right, the order passes, and the bytes are sound
 // under it.
 #[derive(Clone, Copy)]
 pub struct View<'a> {
-    pub bytes: &'a [u8],
-    pub words: &'a [u64],
+    pub bytes: &'a Lent,
+    pub words: &'a Words,
     pub order: &'a Order,
     pub ghost ready: { Ready order.now bytes.now words.now },
 }
 
 impl View<'_> {
+    // Byte f of x, and 0 past the last number.
+    fn field(&self, x: u16, f: u16) -> u8
+        ensures { result ≡ field self.now.bytes.now x f }
+    {
+        let bytes = self.bytes;
+        records::field(bytes, x, f)
+    }
+
+    // Column y of a row.
+    fn cell(&self, row: u16, y: u16) -> bool
+        ensures { result ≡ cell row_size self.now.words.now row y }
+    {
+        let words = self.words;
+        rows::has(words, row, y)
+    }
+
+    #[tactic(auto, unfolding(records::specs::Records::is_task))]
     pub fn is_task(&self, x: u16) -> bool
         ensures { result ≡ is_task self.now.bytes.now x }
     {
-        records::is_task(self.bytes, x)
+        self.field(x, KIND) == TASK
     }
 
+    #[tactic(auto, unfolding(records::specs::Records::is_object))]
     pub fn is_object(&self, x: u16) -> bool
         ensures { result ≡ is_object self.now.bytes.now x }
     {
-        records::is_object(self.bytes, x)
+        self.field(x, KIND) == OBJECT
     }
 
     pub fn in_use(&self, x: u16) -> bool
         ensures { result ≡ not (eqb (field self.now.bytes.now x 0) 0) }
     {
-        records::field(self.bytes, x, KIND) != FREE
+        self.field(x, KIND) != FREE
     }
 
     pub fn is_marked(&self, x: u16) -> bool
         ensures { result ≡ not (eqb (field self.now.bytes.now x 5) 0) }
     {
-        records::field(self.bytes, x, MARKS) != 0
+        self.field(x, MARKS) != 0
     }
 
     pub fn are_tasks(&self, a: u16, b: u16) -> bool
@@ -63,14 +81,14 @@ impl View<'_> {
     pub fn driver_of(&self, x: u16) -> u16
         ensures { result ≡ field self.now.bytes.now x 3 }
     {
-        u16::from(records::field(self.bytes, x, DRIVER))
+        u16::from(self.field(x, DRIVER))
     }
 
     // Byte f of x, a driver or a container, is the number y.
     fn names(&self, x: u16, f: u16, y: u16) -> bool
         ensures { result ≡ eqb (field self.now.bytes.now x f) y }
     {
-        u16::from(records::field(self.bytes, x, f)) == y
+        u16::from(self.field(x, f)) == y
     }
 
     // The driver d stands in the record of x.
@@ -91,7 +109,7 @@ impl View<'_> {
     pub fn level_row(&self, x: u16) -> u16
         ensures { result ≡ row_of self.now.order.now (field self.now.bytes.now x 1) }
     {
-        let a = records::field(self.bytes, x, LEVEL);
+        let a = self.field(x, LEVEL);
         self.order.row_of(u16::from(a))
     }
 
@@ -100,7 +118,7 @@ impl View<'_> {
     pub fn read_row(&self, x: u16) -> u16
         ensures { result ≡ row_of self.now.order.now (field self.now.bytes.now x 2) }
     {
-        let a = records::field(self.bytes, x, READ_LEVEL);
+        let a = self.field(x, READ_LEVEL);
         self.order.row_of(u16::from(a))
     }
 
@@ -108,7 +126,7 @@ impl View<'_> {
     pub fn reaches(&self, row: u16, y: u16) -> bool
         ensures { result ≡ bit row (field self.now.bytes.now y 1) }
     {
-        let b = records::field(self.bytes, y, LEVEL);
+        let b = self.field(y, LEVEL);
         levels::in_row(row, u16::from(b))
     }
 
@@ -124,7 +142,7 @@ impl View<'_> {
     pub fn level_below(&self, l: u16, y: u16) -> bool
         ensures { result ≡ at_or_below self.now.order.now l (field self.now.bytes.now y 1) }
     {
-        let b = records::field(self.bytes, y, LEVEL);
+        let b = self.field(y, LEVEL);
         (*self.order).at_or_below(l, u16::from(b))
     }
 
@@ -132,7 +150,7 @@ impl View<'_> {
     pub fn has_flow(&self, x: u16, y: u16) -> bool
         ensures { result ≡ cell row_size self.now.words.now x y }
     {
-        rows::has(self.words, x, y)
+        self.cell(x, y)
     }
 
     // An access of the task e to the object x in a table; a number past the table has none.
@@ -140,7 +158,7 @@ impl View<'_> {
         requires { table ≤ 2 * numbers }
         ensures { result ≡ (ltb e numbers && cell row_size self.now.words.now (table + e) x) }
     {
-        e < NUMBERS && rows::has(self.words, table + e, x)
+        e < NUMBERS && self.cell(table + e, x)
     }
 
     // The task e has read access to x.

@@ -1,15 +1,15 @@
 // What each event leaves when it is done.
 ghost use Rattle.std.specs.Prelude.{◌≡◌, true, List, ℕ, ◌<◌};
-ghost use Rattle.rows.specs.Size.{numbers, WordsLent};
-ghost use Rattle.records.specs.Records.{BytesLent, is_object};
+ghost use Rattle.rows.specs.Size.{numbers};
+ghost use Rattle.records.specs.Records.{is_object};
 ghost use Rattle.model.specs.State.{memory};
 ghost use Rattle.model.specs.Effects.{effects};
 ghost use Rattle.events.specs.Judged.{read_does, write_does, move_does, delete_does};
 
 use decisions::Decision;
 use decisions::effects::{add_access, record_both};
-use records::{CONTAINER, Record, set_field, set_record};
-use rows::{READS, WRITES};
+use records::{CONTAINER, Lent, Record, set_field, set_record};
+use rows::{READS, WRITES, Words};
 
 pub fn read(words: &mut [u64], judged: Decision, e: u16, d: u16, x: u16)
     requires { e < numbers }
@@ -44,8 +44,8 @@ pub fn move_object(
 }
 
 // Bridged first, while the object's record and its flows still stand.
-pub fn delete(bytes: &mut [u8], words: &mut [u64], judged: Decision, e: u16, d: u16, x: u16)
-    requires { BytesLent bytes.old × WordsLent words.old × (x < numbers) × (is_object bytes.old x ≡ true) }
+pub fn delete(bytes: &mut Lent, words: &mut Words, judged: Decision, e: u16, d: u16, x: u16)
+    requires { (x < numbers) × (is_object bytes.old x ≡ true) }
     ensures { memory bytes.new words.new ≡ effects (delete_does e d x judged.first judged.second) (memory bytes.old words.old) }
 {
     bridging::bridge(bytes, words, x);

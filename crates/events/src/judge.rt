@@ -102,7 +102,8 @@ fn move_rows(view: &View, e: u16, d: u16, x: u16, f: u16, t: u16, rest: Verdict)
         return above;
     };
     let held = unless(all_write(view, e, d, f, t), Verdict::Held, rest);
-    unless(!lies_inside(view.bytes, t, x), Verdict::Place, held)
+    let bytes = view.bytes;
+    unless(!lies_inside(bytes, t, x), Verdict::Place, held)
 }
 
 pub fn move_object<E: Engine>(view: &View, e: u16, d: u16, x: u16, f: u16, t: u16) -> Decision
@@ -151,11 +152,8 @@ fn last_rows(view: &View, x: u16, verdict: Verdict) -> Verdict
         return verdict;
     }
     let empty = is_empty(view, x);
-    let row = unless(
-        !feeds_unmarked(view.bytes, view.words, x),
-        Verdict::Feeding,
-        verdict,
-    );
+    let View { bytes, words, .. } = *view;
+    let row = unless(!feeds_unmarked(bytes, words, x), Verdict::Feeding, verdict);
     unless(empty, Verdict::Filled, row)
 }
 

@@ -14,12 +14,14 @@ mod judge;
 use decisions::facts::View;
 use levels::Order;
 use model::Verdict;
+use records::Lent;
+use rows::Words;
 use table::Engine;
 
 // A read and a write refuse wrong numbers first, and leave.
 pub fn read<E: Engine>(
-    bytes: &[u8],
-    words: &mut [u64],
+    bytes: &Lent,
+    words: &mut Words,
     order: &Order,
     task: u16,
     driver: u16,
@@ -44,8 +46,8 @@ pub fn read<E: Engine>(
 }
 
 pub fn write<E: Engine>(
-    bytes: &[u8],
-    words: &mut [u64],
+    bytes: &Lent,
+    words: &mut Words,
     order: &Order,
     task: u16,
     driver: u16,
@@ -70,8 +72,8 @@ pub fn write<E: Engine>(
 }
 
 pub fn move_object<E: Engine>(
-    bytes: &mut [u8],
-    words: &mut [u64],
+    bytes: &mut Lent,
+    words: &mut Words,
     order: &Order,
     task: u16,
     driver: u16,
@@ -95,8 +97,8 @@ pub fn move_object<E: Engine>(
 }
 
 pub fn delete<E: Engine>(
-    bytes: &mut [u8],
-    words: &mut [u64],
+    bytes: &mut Lent,
+    words: &mut Words,
     order: &Order,
     task: u16,
     driver: u16,

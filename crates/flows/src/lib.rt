@@ -15,12 +15,14 @@ use decisions::effects;
 use decisions::facts::View;
 use levels::Order;
 use model::Verdict;
+use records::Lent;
+use rows::Words;
 use table::Engine;
 
 // All but a find refuse wrong numbers first, and leave.
 pub fn call_task<E: Engine>(
-    bytes: &[u8],
-    words: &mut [u64],
+    bytes: &Lent,
+    words: &mut Words,
     order: &Order,
     caller: u16,
     callee: u16,
@@ -44,8 +46,8 @@ pub fn call_task<E: Engine>(
 }
 
 pub fn invoke<E: Engine>(
-    bytes: &[u8],
-    words: &mut [u64],
+    bytes: &Lent,
+    words: &mut Words,
     order: &Order,
     invoker: u16,
     invokee: u16,
@@ -69,8 +71,8 @@ pub fn invoke<E: Engine>(
 }
 
 pub fn pass<E: Engine>(
-    bytes: &[u8],
-    words: &mut [u64],
+    bytes: &Lent,
+    words: &mut Words,
     order: &Order,
     z: u16,
     x: u16,
@@ -95,8 +97,8 @@ pub fn pass<E: Engine>(
 }
 
 pub fn post<E: Engine>(
-    bytes: &[u8],
-    words: &mut [u64],
+    bytes: &Lent,
+    words: &mut Words,
     order: &Order,
     x: u16,
     z: u16,
@@ -120,7 +122,7 @@ pub fn post<E: Engine>(
     judged.verdict
 }
 
-pub fn find(bytes: &[u8], words: &mut [u64], order: &Order, x: u16, z: u16, y: u16) -> Verdict
+pub fn find(bytes: &Lent, words: &mut Words, order: &Order, x: u16, z: u16, y: u16) -> Verdict
     requires { Ready order.now bytes.now words.old }
     ensures { left (number_of result) 0 bytes.now words.new ≡ outcome (memory bytes.now words.old) (model.find order.now (memory bytes.now words.old) x z y) }
 {

@@ -15,6 +15,8 @@ use layout::MOST_LEVELS;
 use layout::fields::{Found, Object, Task, head_at, is_at, task_at};
 use levels::Order;
 use model::Verdict;
+use records::Lent;
+use rows::Words;
 use table::Engine;
 
 // An open object: its own number and its driver's.
@@ -26,8 +28,8 @@ pub struct Holder {
 
 // An object in a container: the core and the object's driver each write to the container, through its driver, first.
 fn create_in<E: Engine>(
-    bytes: &mut [u8],
-    words: &mut [u64],
+    bytes: &mut Lent,
+    words: &mut Words,
     order: &Order,
     container: Holder,
     object: Object,
@@ -55,8 +57,8 @@ fn create_in<E: Engine>(
 
 // An object in the innermost of the open ones, which is the last, or a root where none is open.
 fn create<E: Engine>(
-    bytes: &mut [u8],
-    words: &mut [u64],
+    bytes: &mut Lent,
+    words: &mut Words,
     order: &Order,
     open: &[Holder],
     object: Object,
@@ -79,8 +81,8 @@ fn create<E: Engine>(
 
 // A task. What is no form ends the text: one that has been settled holds none.
 fn task(
-    bytes: &mut [u8],
-    words: &mut [u64],
+    bytes: &mut Lent,
+    words: &mut Words,
     order: &Order,
     text: &[u8],
     at: usize,
@@ -107,8 +109,8 @@ fn task(
 
 // An object, which is open then.
 fn object<E: Engine>(
-    bytes: &mut [u8],
-    words: &mut [u64],
+    bytes: &mut Lent,
+    words: &mut Words,
     order: &Order,
     text: &[u8],
     at: usize,
@@ -135,8 +137,8 @@ fn object<E: Engine>(
 // The whole text, form after form.
 // By hand: a match stands where `?` would, since the calls of lay_out ask for a verdict, and not for a Result.
 pub fn lay_out<E: Engine>(
-    bytes: &mut [u8],
-    words: &mut [u64],
+    bytes: &mut Lent,
+    words: &mut Words,
     order: &Order,
     text: &[u8],
 ) -> Verdict

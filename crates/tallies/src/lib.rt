@@ -3,7 +3,6 @@
 
 ghost use Rattle.std.specs.Prelude.{◌≡◌, List, [], ℕ, ◌<◌, length};
 ghost use Rattle.rows.specs.Size.{present, numbers};
-ghost use Rattle.records.specs.Records.{BytesLent};
 ghost use Rattle.model.specs.Verdicts.{number_of};
 ghost use Rattle.model.specs.State.{memory};
 ghost use Rattle.model.specs.Tallies as model;
@@ -13,6 +12,7 @@ ghost use Rattle.tallies.specs.Entries.{InList, answer_of, entered_as};
 ghost use Rattle.tallies.specs.Counts.{records_in, left_over};
 
 use model::{Answer, Call, Tally, Told, Verdict};
+use records::Lent;
 
 // How many counts a record has, where a list is lent as plain numbers.
 pub const COUNTS: usize = 3;
@@ -72,8 +72,7 @@ fn raise(tally: Tally, verdict: Verdict) -> Tally
 
 // The number, if it names a task; otherwise 0.
 #[tactic(auto, using(crate::specs::AskerLaws::task_in), unfolding(model::specs::Tallies::if_task, model::specs::State::task))]
-fn if_task(bytes: &[u8], x: u16) -> u16
-    requires { BytesLent bytes.now }
+fn if_task(bytes: &Lent, x: u16) -> u16
     ensures { ((ws : List ℕ) → result ≡ if_task (memory bytes.now ws) x) × (result < numbers) }
 {
     if records::is_task(bytes, x) { x } else { 0 }
@@ -81,8 +80,7 @@ fn if_task(bytes: &[u8], x: u16) -> u16
 
 // Whose record a call counts on that has passed rows 2 and 3: that of the task that asks.
 #[tactic(auto, unfolding(model::specs::Tallies::asker))]
-pub fn asker(bytes: &[u8], call: Call) -> u16
-    requires { BytesLent bytes.now }
+pub fn asker(bytes: &Lent, call: Call) -> u16
     ensures { ((ws : List ℕ) → result ≡ model.asker (memory bytes.now ws) call) × (result < numbers) }
 {
     match call {

@@ -1,12 +1,11 @@
-use Rattle.std.proofs.Common.{◌≡◌, true, List, ℕ, ◌%◌, ◌∙◌, ap, length, replicate, arith, eqb-true}
-use Rattle.std.proofs.Math.Bool.{and-eq-true_iff}
+use Rattle.std.proofs.Common.{◌≡◌, true, List, ℕ, ◌%◌, ◌∙◌, ap, length, replicate, arith, rules}
 use Rattle.std.proofs.Math.Nat.{mod-eq_of_lt}
 use Rattle.levels.specs.declared.Order.{Order}
 use Rattle.levels.specs.Order.{order_passes}
 use Rattle.levels.specs.OrderLaws.{IsOrder, is_order, both_in}
 use Rattle.rows.specs.Size.{WordsLent}
 use Rattle.records.specs.Records.{BytesLent, set_record}
-use Rattle.model.specs.State.{memory, lengths_fit}
+use Rattle.model.specs.State.{memory}
 use Rattle.model.specs.Monitor.{started}
 use Rattle.calls.proofs.set_up.Goals as goal
 
@@ -17,13 +16,10 @@ top_fits o ok =
     mod-eq_of_lt (omega (arith, (both_in o 0 o.top (order.upper 0 order.some)).1, order.few))
 
 -- zeros as long as what was lent, with the core's record, are the memory of a start
-is_started : (o : Order) (bs ws : List ℕ) → lengths_fit (memory bs ws) ≡ true → order_passes o ≡ true
+is_started : (o : Order) (bs ws : List ℕ) → BytesLent bs → WordsLent ws → order_passes o ≡ true
     → memory (set_record (replicate (length bs) 0) 0 1 (o.top % 0x100) (o.top % 0x100) 0 0 0 0) (replicate (length ws) 0) ≡ started o
-unfolding started lengths_fit
-is_started o bs ws fits ok =
-    let f = simp and-eq-true_iff at fits in
-    let b : BytesLent bs = eqb-true _ _ f.0 in
-    let w : WordsLent ws = eqb-true _ _ f.1 in
+unfolding started
+is_started o bs ws b w ok =
     let t = top_fits o ok in
     λ i. memory (set_record (replicate (b i) 0) 0 1 (t i) (t i) 0 0 0 0) (replicate (w i) 0)
 
@@ -32,4 +28,6 @@ returns c =
     let t = c.args.order.now.top % 0x100 in
     let bytes = c.set_record.ensures ∙ ap (λ (l : List ℕ). set_record l 0 1 t t 0 0 0 0) c.clear_all.ensures in
     let words = c.clear_all-2.ensures in
-    (λ i. memory (bytes i) (words i)) ∙ is_started c.args.order.now c.args.bytes.now c.args.words.now c.requires.0 c.requires.1
+    let b : BytesLent c.args.bytes.now = search rules in
+    let w : WordsLent c.args.words.now = search rules in
+    (λ i. memory (bytes i) (words i)) ∙ is_started c.args.order.now c.args.bytes.now c.args.words.now b w c.requires
