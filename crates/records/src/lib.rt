@@ -259,7 +259,7 @@ impl Seen {
     };
 
     // With the record w of the object x; None where it is unfit: it lies in itself, or in no number.
-    #[tactic(auto, using(crate::specs::SeenLaws::with_object, crate::specs::WordLaws::in_number))]
+    #[tactic(auto, using(crate::specs::SeenLaws::with_object, crate::specs::WordLaws::in_number, crate::specs::WordLaws::in_itself, crate::specs::WordLaws::in_no_number))]
     fn with_object(self, bytes: &Lent, x: usize, w: usize) -> Option<Seen>
         requires { x < numbers }
         ensures { MatchOption result (object_fits bytes.now x w ≡ false) (λ t. Sees (object_fits bytes.now x w) w self t) }
