@@ -1,4 +1,6 @@
 // The events of flows alone: call, invoke, pass, post and find, each equal to its table in the model, whichever engine decides.
+// By hand: bytes, words and order stay three parameters of an event, since C lends the first two apart, and a struct of two `&mut` needs a
+// clause in each contract that they are the same references still.
 #![tactic(auto)]
 
 ghost use Rattle.std.specs.Prelude.{◌≡◌, ◌&&◌};

@@ -1,4 +1,6 @@
 // The numbers, words and brackets of a layout's text, read in place: the heads of objects, and tasks.
+// By hand: a text and a place in it are two parameters, and what is read has its end beside it: so one equation says both, where a
+// reader that moves would need two.
 ghost use Rattle.std.specs.Prelude.{◌≡◌, ◌+◌, ◌<◌, ◌≤◌, false, IsTrue, IfSome, length, get_or, drop};
 ghost use Rattle.layout.specs.Reading.{number, field, head, task_at};
 ghost use Rattle.layout.specs.Answers.{digit_at, stands_at, answer};

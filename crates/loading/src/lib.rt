@@ -60,13 +60,13 @@ fn create<E: Engine>(
     bytes: &mut Lent,
     words: &mut Words,
     order: &Order,
-    open: &[Holder],
+    held: &[Holder],
     object: Object,
 ) -> Verdict
     requires { Ready order.now bytes.old words.old }
-    ensures { left (number_of result) 0 bytes.new words.new ≡ in_turn order.now (object_calls (reverse open.now) object) (memory bytes.old words.old) }
+    ensures { left (number_of result) 0 bytes.new words.new ≡ in_turn order.now (object_calls (reverse held.now) object) (memory bytes.old words.old) }
 {
-    let Some(container) = open.last() else {
+    let Some(container) = held.last() else {
         let Object {
             number,
             driver,
@@ -114,16 +114,16 @@ fn object<E: Engine>(
     order: &Order,
     text: &[u8],
     at: usize,
-    open: &[Holder],
+    held: &[Holder],
 ) -> Result<Found<Holder>, Verdict>
-    requires { Ready order.now bytes.old words.old × ObjectAt text.now at × (length open.now < most_deep) }
+    requires { Ready order.now bytes.old words.old × ObjectAt text.now at × (length held.now < most_deep) }
     ensures further { IfOk result (λ f. Further order.now text.now at f.end bytes.new words.new) }
-    ensures words_after { turned order.now (λ f. calls_from (f.value ∷ reverse open.now) (drop f.end text.now)) result (memory bytes.new words.new) ≡ in_turn order.now (calls_from (reverse open.now) (drop at text.now)) (memory bytes.old words.old) }
+    ensures words_after { turned order.now (λ f. calls_from (f.value ∷ reverse held.now) (drop f.end text.now)) result (memory bytes.new words.new) ≡ in_turn order.now (calls_from (reverse held.now) (drop at text.now)) (memory bytes.old words.old) }
 {
     let Ok(Found { value: object, end }) = head_at(text, at) else {
         return Err(Verdict::Granted);
     };
-    let verdict = create::<E>(bytes, words, order, open, object);
+    let verdict = create::<E>(bytes, words, order, held, object);
     if !verdict.is_done() {
         return Err(verdict);
     }

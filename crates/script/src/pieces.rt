@@ -16,6 +16,7 @@ pub struct Found {
 }
 
 // All that is left of a line, where that is at most sixteen numbers: zeros follow them.
+// By hand: an array with its count, since there is no heap; `as_slice` is what was read.
 #[derive(Clone, Copy)]
 pub struct Numbers {
     pub values: [u16; MOST_NUMBERS],

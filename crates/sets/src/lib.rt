@@ -1,4 +1,6 @@
 // Sets of numbers, a bit for each, in two words.
+// By hand: `TableLent` stands in four contracts, since these functions read the lent flows and the rows that a spread makes of drivers,
+// which differ in length.
 #![tactic(auto)]
 
 mod numbers;

@@ -11,14 +11,14 @@ pub returns-in_default-clause-words_after : goal.returns-in_default-clause-words
 unfolding turned
 returns-in_default-clause-words_after g c =
     let a = c.args in
-    turn_none a.order.now a.bytes.now a.words.now _ (no_object (reverse a.open.now) a.text.now a.at c.requires.1 _ (sym c.in_default.ensures))
+    turn_none a.order.now a.bytes.now a.words.now _ (no_object (reverse a.held.now) a.text.now a.at c.requires.1 _ (sym c.in_default.ensures))
 
 pub returns-then-not-is_done-clause-words_after : goal.returns-then-not-is_done-clause-words_after
 unfolding turned
 returns-then-not-is_done-clause-words_after g c =
     let a = c.args in
     turn_stops a.order.now _ _ _ _
-    (object_calls_law (reverse a.open.now) a.text.now a.at c.requires.1 _ (sym c.in-Ok.ensures) (rw length-reverse c.requires.2))
+    (object_calls_law (reverse a.held.now) a.text.now a.at c.requires.1 _ (sym c.in-Ok.ensures) (rw length-reverse c.requires.2))
     c.create-verdict.ensures (failed c.is_done.ensures c.if-not-is_done.true)
 
 pub returns-clause-further : goal.returns-clause-further
@@ -26,7 +26,7 @@ returns-clause-further g c =
     let a = c.args in
     further a.order.now a.text.now a.at _ _ _ (head_got a.text.now a.at _ (sym c.in-Ok.ensures))
     (turn_ready a.order.now _ _ _ _
-    (object_calls_law (reverse a.open.now) a.text.now a.at c.requires.1 _ (sym c.in-Ok.ensures) (rw length-reverse c.requires.2))
+    (object_calls_law (reverse a.held.now) a.text.now a.at c.requires.1 _ (sym c.in-Ok.ensures) (rw length-reverse c.requires.2))
     c.create-verdict.ensures c.requires.0)
 
 pub returns-clause-words_after : goal.returns-clause-words_after
@@ -34,5 +34,5 @@ unfolding turned
 returns-clause-words_after g c =
     let a = c.args in
     turn_goes a.order.now _ _ _ _
-    (object_calls_law (reverse a.open.now) a.text.now a.at c.requires.1 _ (sym c.in-Ok.ensures) (rw length-reverse c.requires.2))
+    (object_calls_law (reverse a.held.now) a.text.now a.at c.requires.1 _ (sym c.in-Ok.ensures) (rw length-reverse c.requires.2))
     c.create-verdict.ensures (passed c.is_done.ensures c.if-not-is_done.false)
