@@ -9,7 +9,7 @@ ghost use Rattle.model.specs.Ready.{Ready};
 ghost use Rattle.decisions.specs.Facts.{writes, both_write};
 
 use levels::Order;
-use records::{CONTAINER, DRIVER, FREE, KIND, LEVEL, Lent, MARKS, OBJECT, READ_LEVEL, TASK};
+use records::{CONTAINER, DRIVER, FREE, KIND, LEVEL, Lent, MARKS, READ_LEVEL};
 use rows::{NUMBERS, READS, WRITES, Words};
 
 // A state that has passed rows 2 and 3, as an event looks at it: the lengths are right, the order passes, and the bytes are sound
@@ -39,18 +39,18 @@ impl View<'_> {
         rows::has(words, row, y)
     }
 
-    #[tactic(auto, unfolding(records::specs::Records::is_task))]
     pub fn is_task(&self, x: u16) -> bool
         ensures { result ≡ is_task self.now.bytes.now x }
     {
-        self.field(x, KIND) == TASK
+        let bytes = self.bytes;
+        records::is_task(bytes, x)
     }
 
-    #[tactic(auto, unfolding(records::specs::Records::is_object))]
     pub fn is_object(&self, x: u16) -> bool
         ensures { result ≡ is_object self.now.bytes.now x }
     {
-        self.field(x, KIND) == OBJECT
+        let bytes = self.bytes;
+        records::is_object(bytes, x)
     }
 
     pub fn in_use(&self, x: u16) -> bool
