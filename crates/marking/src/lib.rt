@@ -26,11 +26,11 @@ use rounds::Spread;
 use rows::{NUMBERS, Words};
 
 // Byte f of the record of x.
-fn byte(bytes: &Lent, x: usize, f: u16) -> u8
+fn byte(bytes: &Lent, x: u8, f: u16) -> u8
     requires { (x < numbers) × (f < record_size) }
     ensures { result ≡ field bytes.now x f }
 {
-    bytes[RECORD_SIZE * x + (f as usize)]
+    bytes[RECORD_SIZE * (x as usize) + (f as usize)]
 }
 
 // A report of nothing, with why.

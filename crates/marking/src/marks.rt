@@ -7,16 +7,16 @@ ghost use Rattle.model.specs.State.{memory, marked, has_flow};
 ghost use Rattle.model.specs.Effects.{mark_one, mark_where, object_of, effect, mark_outside, mark_thing};
 
 use crate::byte;
-use records::{DRIVER, KIND, Lent, MARKS, OBJECT, RECORD_SIZE, RECORDS};
+use records::{DRIVER, KIND, Lent, MARKS, OBJECT, RECORD_SIZE};
 use rows::{NUMBERS, Words};
 use sets::Set;
 
 // x is marked. A mark that is there stays as it is.
-fn mark_one(bytes: &mut Lent, x: usize)
+fn mark_one(bytes: &mut Lent, x: u8)
     requires { x < numbers }
     ensures { (ws : List ℕ) → memory bytes.new ws ≡ mark_one x (memory bytes.old ws) }
 {
-    let at = RECORD_SIZE * x + (MARKS as usize);
+    let at = RECORD_SIZE * (x as usize) + (MARKS as usize);
     if bytes[at] == 0 {
         bytes[at] = 1;
     }
@@ -29,7 +29,7 @@ fn mark_word(bytes: &mut Lent, word: u64, first: u8)
     ensures { ((ws : List ℕ) → memory bytes.new ws ≡ mark_where (in_word word first) (memory bytes.old ws)) × Within (in_word word first) }
 {
     for x in sets::numbers_of(word, first) {
-        mark_one(bytes, x as usize);
+        mark_one(bytes, x);
     }
 }
 
@@ -42,7 +42,7 @@ pub fn mark_set(bytes: &mut Lent, set: Set)
 }
 
 // x is an object of the driver.
-fn is_object_of(bytes: &Lent, driver: u16, x: usize) -> bool
+fn is_object_of(bytes: &Lent, driver: u16, x: u8) -> bool
     requires { x < numbers }
     ensures { (ws : List ℕ) → result ≡ object_of (memory bytes.now ws) driver x }
 {
@@ -53,7 +53,7 @@ fn is_object_of(bytes: &Lent, driver: u16, x: usize) -> bool
 fn mark_objects(bytes: &mut Lent, driver: u16)
     ensures { (ws : List ℕ) → memory bytes.new ws ≡ mark_where (object_of (memory bytes.old ws) driver) (memory bytes.old ws) }
 {
-    for x in 0..RECORDS {
+    for x in 0..(NUMBERS as u8) {
         if is_object_of(bytes, driver, x) {
             mark_one(bytes, x);
         }
@@ -76,7 +76,7 @@ pub fn mark_thing(bytes: &mut Lent, x: u16)
     requires { x < numbers }
     ensures { (ws : List ℕ) → memory bytes.new ws ≡ effect (mark_thing x) (memory bytes.old ws) }
 {
-    mark_one(bytes, x as usize);
+    mark_one(bytes, x as u8);
     if records::is_task(bytes, x) {
         mark_objects(bytes, x);
     }
@@ -87,7 +87,7 @@ pub fn is_fed(bytes: &Lent, words: &Words, x: u16) -> bool
     ensures { result ≡ any_b numbers (λ y. marked (memory bytes.now words.now) y && has_flow (memory bytes.now words.now) y x) }
 {
     for y in 0..NUMBERS {
-        if (byte(bytes, y as usize, MARKS) != 0) & rows::has(words, y, x) {
+        if (byte(bytes, y as u8, MARKS) != 0) & rows::has(words, y, x) {
             return true;
         }
     }

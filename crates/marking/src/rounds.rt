@@ -35,7 +35,7 @@ fn driver_of(bytes: &Lent, x: u8) -> u8
     requires { x ≤ last }
     ensures { (result ≡ driver bytes.now x) × (Driven bytes.now → is_object bytes.now x ≡ true → result ≤ last) }
 {
-    byte(bytes, x as usize, DRIVER)
+    byte(bytes, x, DRIVER)
 }
 
 // An object is put into the row of its driver, and its driver into the drivers' row.
@@ -43,7 +43,7 @@ fn own_row(bytes: &Lent, owned: &mut [u64], x: u8)
     requires { OwnedRows owned.old × Driven bytes.now × (x ≤ last) }
     ensures { owned.new ≡ own_row row_size bytes.now x owned.old }
 {
-    if byte(bytes, x as usize, KIND) == OBJECT {
+    if byte(bytes, x, KIND) == OBJECT {
         let driver = driver_of(bytes, x);
         put_into(owned, ROW_WORDS * (driver as usize), x);
         put_into(owned, DRIVERS, driver);
