@@ -25,10 +25,9 @@ pub struct Numbers {
 
 impl Numbers {
     pub fn as_slice(&self) -> &[u16]
-        requires { self.now.count ≤ 16 }
         ensures { result.now ≡ take self.now.count self.now.values }
     {
-        &self.values[..self.count]
+        self.values.get(..self.count).unwrap_or(&self.values)
     }
 }
 
