@@ -17,29 +17,43 @@ use Rattle.model.specs.State.{Memory, object}
 use Rattle.model.specs.Inside.{most_steps, walk, inside}
 use Rattle.places.specs.Places.{bytes_walk, bytes_inside}
 
--- ---- a turn of the walk, after k of them
+-- ---- a turn of the walk
 
 pub steps_none : (bs : List ℕ) (x y : ℕ) → bytes_walk 0 bs x y ≡ false
 unfolding bytes_walk
 steps_none bs x y = refl
 
-one_less : (k : ℕ) → k < most_steps present → most_steps present - k ≡ suc (most_steps present - (k + 1))
-one_less k l = omega arith
+some_left : (k : ℕ) → k < most_steps present → 0 < most_steps present - k
+some_left k l = omega arith
 
 -- with v read as the container of x
-module _ (bs : List ℕ) (x : ℕ) {y v : ℕ} (is : v ≡ container bs x) {k : ℕ} (l : k < most_steps present) where
-  pub step_found : v ≡ y → bytes_walk (most_steps present - k) bs x y ≡ true
+module _ (bs : List ℕ) (x : ℕ) {y v : ℕ} (is : v ≡ container bs x) where
+  pub step_found : (n : ℕ) → 0 < n → v ≡ y → bytes_walk n bs x y ≡ true
   unfolding bytes_walk
-  step_found e = rw (one_less k l) (rw (← is, eq-eqb _ _ e))
+  step_found zero l e = absurd (omega arith)
+  step_found (suc n) l e = rw (← is, eq-eqb _ _ e)
 
-  module _ (h : v ≡ y → ⊥) where
-    pub step_root : v ≡ container_byte root present → bytes_walk (most_steps present - k) bs x y ≡ false
-    unfolding bytes_walk
-    step_root e = rw (one_less k l) (rw (← is, ne_eqb _ _ h, eq-eqb _ _ e))
+  pub step_root : (n : ℕ) → (v ≡ y → ⊥) → v ≡ container_byte root present → bytes_walk n bs x y ≡ false
+  unfolding bytes_walk
+  step_root zero h e = refl
+  step_root (suc n) h e = rw (← is, ne_eqb _ _ h, eq-eqb _ _ e)
 
-    pub step_on : (v ≡ container_byte root present → ⊥) → bytes_walk (most_steps present - k) bs x y ≡ bytes_walk (most_steps present - (k + 1)) bs v y
-    unfolding bytes_walk
-    step_on e = rw (one_less k l) (rw (← is, ne_eqb _ _ h, ne_eqb _ _ e))
+  pub step_on : (n : ℕ) → 0 < n → (v ≡ y → ⊥) → (v ≡ container_byte root present → ⊥) → bytes_walk n bs x y ≡ bytes_walk (n - 1) bs v y
+  unfolding bytes_walk
+  step_on zero l h e = absurd (omega arith)
+  step_on (suc n) l h e = let less : suc n - 1 ≡ n = omega arith in rw (← is, ne_eqb _ _ h, ne_eqb _ _ e, less)
+
+  -- the same after k turns, where the walk may have one more
+  module _ {k : ℕ} (l : k < most_steps present) where
+    pub turn_found : v ≡ y → bytes_walk (most_steps present - k) bs x y ≡ true
+    turn_found e = step_found _ (some_left k l) e
+
+    module _ (h : v ≡ y → ⊥) where
+      pub turn_root : v ≡ container_byte root present → bytes_walk (most_steps present - k) bs x y ≡ false
+      turn_root e = step_root _ h e
+
+      pub turn_on : (v ≡ container_byte root present → ⊥) → bytes_walk (most_steps present - k) bs x y ≡ bytes_walk (most_steps present - (k + 1)) bs v y
+      turn_on e = let less : most_steps present - k - 1 ≡ most_steps present - (k + 1) = omega arith in rw less at (step_on _ (some_left k l) h e)
 
 -- ---- on sound bytes, from an object and for an object
 
