@@ -152,6 +152,9 @@ trailing_below (suc k) w (suc i) l = bit_half w i ∙ trailing_below k (w / 2) i
     go (inl e) l = le_of_suc-le-suc (subst (λ (d : ℕ). suc i < under d (count_trailing_zeros k (w / 2))) e l)
     go (inr e) l = absurd (not-suc-le-zero (subst (λ (d : ℕ). suc i < under d (count_trailing_zeros k (w / 2))) e l))
 
+pub trailing_lt : (k w : ℕ) → w < 2 ^ k → 0 < w → count_trailing_zeros k w < k
+trailing_lt k w h p = bit_below k w (count_trailing_zeros k w) h (trailing_set k w h p)
+
 below : (k w i : ℕ) → w < 2 ^ k → 0 < w → (bit w i && bit (w - 1) i) ≡ (bit w i && not (eqb i (count_trailing_zeros k w)))
 unfolding count_trailing_zeros
 below zero w i h p = absurd (not-suc-le-zero (subst (λ (x : ℕ). 0 < x) (lt-one h) p))

@@ -5,8 +5,8 @@ use Rattle.std.proofs.Common.{sym, ap, ◌∙◌, subst, inl, inr, ⊎_elim, tru
 use Rattle.std.proofs.lemmas.Bool.{not-true, eqb-false}
 use Rattle.std.proofs.Math.Bool.{and-eq-true_iff}
 use Rattle.std.specs.Int.Bits.{bit_and, bit_or, or_add_and, or_shifted_r, and_le_l}
-use Rattle.std.proofs.lemmas.Nat.{or_lt, and_le_r, shr_le}
-use Rattle.std.specs.Int.Count.{count_trailing_zeros}
+use Rattle.std.proofs.lemmas.Nat.{or_lt, and_le_r, leading_top, shr_le}
+use Rattle.std.specs.Int.Count.{count_trailing_zeros, count_leading_zeros}
 use Rattle.std.proofs.Math.Pow.{pow-lt}
 use Rattle.bits.specs.Bit.{bit}
 use Rattle.bits.specs.BitLaws.{bit_and_law, bit_or_law, bit_not, bit_pow, bit_zero, bit_below, bit_ext, bit_rest, trailing_set}
@@ -24,6 +24,19 @@ top_bit : (w b c : ℕ) → 2 ^ b ≤ w → w < 2 ^ suc b → bit w c ≡ (bit (
 top_bit w b c l h =
     let e : w ≡ bit_or (w - 2 ^ b) (2 ^ b) = sym (ap (bit_or (w - 2 ^ b)) (sym (one-mul (2 ^ b))) ∙ or_shifted_r 1 b (w - 2 ^ b) (omega arith) ∙ omega arith) in
     ap (λ (x : ℕ). bit x c) e ∙ bit_or_law (w - 2 ^ b) (2 ^ b) c ∙ rw (bit_pow b c)
+
+-- where it is
+pub top_below : (w : ℕ) → 0 < w → w < 2 ^ 16 → count_leading_zeros 16 w ≤ 15
+top_below w some h = omega (arith, (leading_top 16 w some h).1)
+
+pub top_place : (w : ℕ) → 0 < w → w < 2 ^ 16 → (2 ^ (15 - count_leading_zeros 16 w) ≤ w) × (w < 2 ^ suc (15 - count_leading_zeros 16 w))
+top_place w some h =
+    let t = leading_top 16 w some h in
+    let e : 15 - count_leading_zeros 16 w ≡ t.0 = omega (arith, t.1) in
+    rw e (t.2, t.3)
+
+pub top_less : (w m : ℕ) → 0 < w → w < 2 ^ 16 → bit_and (w - 2 ^ (15 - count_leading_zeros 16 w)) m < w
+top_less w m some h = omega (arith, top_place w some h, and_le_l (w - 2 ^ (15 - count_leading_zeros 16 w)) m)
 
 bit_shift : (w k i : ℕ) → bit (w / 2 ^ k) i ≡ bit w (k + i)
 unfolding bit

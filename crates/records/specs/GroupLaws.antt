@@ -52,6 +52,9 @@ in_group bs x y h l m =
     let e : x + (y - x) ≡ y = omega arith in
     rw e at (all_at group_size (λ k. eqb (word bs (x + k)) 0) h (y - x) (omega arith))
 
+pub free_none : (bs : List ℕ) (from : ℕ) → from ≤ numbers → from % group_size ≡ 0 → FreeUntil bs from from
+free_none bs from l w = record { further = omega arith; in_range = l; whole = w; free = λ x a b. absurd (not-le_of_lt b a) }
+
 pub free_more : (bs : List ℕ) (from n : ℕ) → FreeUntil bs from n → n + 32 ≤ numbers → groups_free bs n ≡ true → FreeUntil bs from (n + 32)
 unfolding groups_free
 free_more bs from n u m h =

@@ -12,7 +12,7 @@ use Rattle.bits.specs.Bit.{joined}
 use Rattle.bits.specs.BitLaws.{digit}
 use Rattle.rows.specs.Size.{present, numbers}
 use Rattle.levels.specs.declared.Order.{Order}
-use Rattle.records.specs.Records.{BytesLent, root_sign, field, kind, level, read_level, driver, container, marks, first_spare, last_spare, is_task, is_object, is_root, in_another, free_record, task_record, object_record_of, sound_record_of, sound_record}
+use Rattle.records.specs.Records.{record_size, BytesLent, root_sign, field, kind, level, read_level, driver, container, marks, first_spare, last_spare, is_task, is_object, is_root, in_another, free_record, task_record, object_record_of, sound_record_of, sound_record}
 use Rattle.records.specs.RecordLaws.{one_of_two, two_of, sound_task, sound_object, sound_else, field_past}
 
 -- the half of the record of x that starts at f: at 0 kind, level, read level and driver, at 4 container, marks and the spare bytes
@@ -136,6 +136,10 @@ below_is k l r n hk hl hr hn =
     rw (e, f, add-mul-mod_self_left, mod-eq_of_lt (u l hl), mod-eq_of_lt (u r hr)) (both_ways _ _
     (λ h. let p = simp and-eq-true_iff at h in simp and-eq-true_iff (omega (arith, eqb-true, lt-ltb)))
     (λ h. let p = simp and-eq-true_iff at h in simp and-eq-true_iff (omega (arith, ltb-true, eq-eqb))))
+
+pub half_below : (bs : List ℕ) (x f : ℕ) → ((i : ℕ) → Fits w8 (get_or bs i 0)) → half bs x f < 0x1_0000_0000
+unfolding half field
+half_below bs x f byte = omega (arith, (byte (record_size * x + f)).fits, (byte (record_size * x + (f + 1))).fits, (byte (record_size * x + (f + 2))).fits, (byte (record_size * x + (f + 3))).fits)
 
 -- ---- an object and its container
 

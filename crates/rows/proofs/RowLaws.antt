@@ -212,6 +212,10 @@ length_clear n r t k ws = length_column n (r * t) k _ ∙ up_length _ t (λ i v.
 
 -- ---- words that hold nothing
 
+pub cell_past : (n : ℕ) (ws : List ℕ) (x y : ℕ) → length ws ≤ place n x y → cell n ws x y ≡ false
+unfolding cell
+cell_past n ws x y h = ap (λ (w : ℕ). bit w (y % 64)) (get_or-eq_default ws 0 h) ∙ bit_zero (y % 64)
+
 pub cell_zeros : (n m x y : ℕ) → cell n (replicate m 0) x y ≡ false
 unfolding cell
 cell_zeros n m x y = ap (λ (w : ℕ). bit w (y % 64)) (get_d_zeros m (place n x y)) ∙ bit_zero (y % 64)
