@@ -15,7 +15,7 @@ pub struct Numbers {
     ghost within: { first + 64 ≤ numbers },
 }
 
-// The lowest one of a word is cleared by taking 1 from the word.
+// `and` with the word less 1 clears the lowest one of a word.
 impl Iterator for Numbers {
     type Item = u8;
 
