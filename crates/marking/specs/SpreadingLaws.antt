@@ -132,7 +132,7 @@ module _ (m : Memory) (h : Sized m) (ws : List ℕ) (t : Table m ws) {k : ℕ} {
     marks : marks_some s.now ≡ true
     marks = some_is ∙ some
 
-    spreading_below : k < last
+    pub spreading_below : k < last
     spreading_below = omega (arith, s.few, round_fewer s.now sized marks)
 
     pub spreading_next : {left' : Set} → left' ≡ set_of (λ x. has left x && not (has new x)) → Spreading m (k + 1) left' new

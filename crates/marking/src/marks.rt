@@ -8,7 +8,7 @@ ghost use Rattle.model.specs.Effects.{mark_one, mark_where, object_of, effect, m
 
 use crate::byte;
 use records::{DRIVER, KIND, Lent, MARKS, OBJECT, RECORD_SIZE};
-use rows::{NUMBERS, Words};
+use rows::NUMBERS;
 use sets::Set;
 
 // x is marked. A mark that is there stays as it is.
@@ -50,7 +50,7 @@ fn is_object_of(bytes: &Lent, driver: u16, x: u8) -> bool
 }
 
 // The objects of a driver are marked.
-fn mark_objects(bytes: &mut Lent, driver: u16)
+pub fn mark_objects(bytes: &mut Lent, driver: u16)
     ensures { (ws : List ℕ) → memory bytes.new ws ≡ mark_where (object_of (memory bytes.old ws) driver) (memory bytes.old ws) }
 {
     for x in 0..(NUMBERS as u8) {
@@ -83,7 +83,7 @@ pub fn mark_thing(bytes: &mut Lent, x: u16)
 }
 
 // A marked thing has a flow to x.
-pub fn is_fed(bytes: &Lent, words: &Words, x: u16) -> bool
+pub fn is_fed(bytes: &Lent, words: &[u64], x: u16) -> bool
     ensures { result ≡ any_b numbers (λ y. marked (memory bytes.now words.now) y && has_flow (memory bytes.now words.now) y x) }
 {
     for y in 0..NUMBERS {
