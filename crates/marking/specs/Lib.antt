@@ -3,6 +3,7 @@ pub mod Lowest
 pub mod FirstLaws
 pub mod MarksLaws
 pub mod EffectLaws
+pub mod StoreLaws
 pub mod Rounds
 pub mod RoundSetLaws
 pub mod RoundLaws

@@ -23,7 +23,7 @@ pub record Marks (m : Memory) (q : ℕ → Bool) (n : Memory) : Type 0 where
 
 -- ---- what is marked in it
 
-no_mark : (m : Memory) (x : ℕ) → marked m x ≡ false → field m.bytes x 5 ≡ 0
+pub no_mark : (m : Memory) (x : ℕ) → marked m x ≡ false → field m.bytes x 5 ≡ 0
 unfolding marked
 no_mark m x e = eqb-true _ 0 (not-false _ e)
 
