@@ -90,13 +90,19 @@ pub fn next_marked(report: Report, from: u16) -> u16
     ensures { result ≡ next_marked report from }
 {
     let [low, high] = report.words;
+    if from >= 64 {
+        return match lowest_from(high, from - 64) {
+            Some(i) => 64 + i,
+            None => NUMBERS,
+        };
+    }
     if let Some(i) = lowest_from(low, from) {
         return i;
     }
-    if let Some(i) = lowest_from(high, from.saturating_sub(64)) {
-        return 64 + i;
+    match lowest_from(high, 0) {
+        Some(i) => 64 + i,
+        None => NUMBERS,
     }
-    NUMBERS
 }
 
 // A task is marked from outside, and its objects are marked.

@@ -497,6 +497,8 @@ fn sound_under(bytes: &Lent, order: Order) -> bool
 }
 
 // The bytes are sound under an order of so many levels and that top. Its rows play no part, so it is not copied for the test.
+// Not inlined: within a long caller its sums would not stay in registers, and the test would take a third more instructions.
+#[inline(never)]
 #[tactic(auto, unfolding(crate::specs::Records::sound_of))]
 pub fn sound(bytes: &[u8], count: u16, top: u16) -> bool
     ensures { (rows : List ℕ) → result ≡ model.sound (record { rows = rows; count = count; top = top }) bytes.now }
