@@ -147,7 +147,7 @@ impl View<'_> {
     }
 
     // Byte f of x, a driver or a container, is the number y.
-    fn names(&self, x: u16, f: u16, y: u16) -> bool
+    pub fn names(&self, x: u16, f: u16, y: u16) -> bool
         ensures { result ≡ eqb (field self.now.bytes.now x f) y }
     {
         u16::from(self.field(x, f)) == y
@@ -211,7 +211,7 @@ impl View<'_> {
     }
 
     // An access of the task e to the object x in a table; a number past the table has none.
-    fn has_access(&self, table: u16, e: u16, x: u16) -> bool
+    pub fn has_access(&self, table: u16, e: u16, x: u16) -> bool
         requires { table ≤ 2 * numbers }
         ensures { result ≡ (ltb e numbers && cell row_size self.now.words.now (table + e) x) }
     {
