@@ -1,13 +1,17 @@
 -- Rows 2 and 3 of the table, as a function that leaves at them meets them.
 -- Assumes nothing.
-use mathlib.Core.Path.{◌≡◌, refl, sym, ap, ◌∙◌}
+use mathlib.Core.Path.{◌≡◌, refl, sym, ap, subst, ◌∙◌}
 use mathlib.Core.Bool.{Bool, true, false, ◌&&◌}
-use mathlib.Core.List.{List}
+use mathlib.Core.List.{List, [], ◌∷◌}
+use mathlib.Core.Logic.{inl, inr}
 use lib.ListN.{length}
 use Prim.Native.Nat.{ℕ}
-use lib.Dec.{eqb}
-use borrow.Author.Tests.{eq-eqb, ne_eqb}
-use Rattle.bits.specs.AllLaws.{and_i, and-false}
+use native.Mathlib.Omega.{arith}
+use lib.Dec.{eqb, ltb}
+use borrow.Author.Tests.{eq-eqb, ne_eqb, ltb-true}
+use types.Run.{OneOf}
+use denote.Enum.Declared.{tag_of}
+use Rattle.bits.specs.AllLaws.{and_i, and_l, and_r, and-false}
 use Rattle.rows.specs.Size.{present, lent_words, WordsLent}
 use Rattle.levels.specs.declared.Order.{Order}
 use Rattle.levels.specs.Order.{order_passes}
@@ -20,6 +24,7 @@ use Rattle.model.specs.Events.{Outcome, left}
 use Rattle.model.specs.Monitor.{perform, start, fitted, refusal, refused_unless}
 use Rattle.model.proofs.TableLaws.{by_call}
 use Rattle.model.proofs.ReadyLaws.{through}
+use Rattle.model.specs.contracts.Call.{the_type as the_call}
 use Rattle.model.specs.declared.Call.{Call}
 use Rattle.model.specs.declared.Call.TheVariants.{Start, Read, Write, Execute, Create, CreateRoot, Move, Delete, CallTask, Invoke, Pass, Post, Find, Mark, Step, Spread}
 
@@ -96,3 +101,23 @@ plainly p d = no_rounds (ap number_of p.0, p.1) d
 -- what a call leaves is its event's outcome, at the constructor that the call is
 pub answered : (o : Order) (m : Memory) {call k : Call} {out left : Outcome} → Ready o m.bytes m.words → call ≡ k → perform o m k ≡ fitted o m out → left ≡ out → left ≡ perform o m call
 answered o m {call} {k} {out} {left} r c e d = d ∙ through o m out r ∙ sym e ∙ ap (perform o m) (sym c)
+
+-- ---- a start's tag is 0, and no other call's is
+
+positive : List ℕ → Bool
+positive [] = true
+positive (k ∷ ks) = ltb 0 k && positive ks
+
+absent : (ks : List ℕ) → positive ks ≡ true → OneOf ks 0 → ⊥
+unfolding positive
+absent [] p h = h
+absent (k ∷ []) p h = omega (arith, ltb-true 0 k (and_l (ltb 0 k) true p))
+absent (k ∷ k' ∷ ks) p (inl e) = omega (arith, ltb-true 0 k (and_l (ltb 0 k) (positive (k' ∷ ks)) p))
+absent (k ∷ k' ∷ ks) p (inr h) = absent (k' ∷ ks) (and_r (ltb 0 k) (positive (k' ∷ ks)) p) h
+
+abbrev others : List ℕ
+others = 1 ∷ 2 ∷ 3 ∷ 4 ∷ 5 ∷ 6 ∷ 7 ∷ 8 ∷ 9 ∷ 10 ∷ 11 ∷ 12 ∷ 13 ∷ 14 ∷ 15 ∷ []
+
+pub no_start : (call : Call) → OneOf others (tag_of the_call call) → call ≡ Start → ⊥
+unfolding positive
+no_start call h e = absent others refl (subst (λ (c : Call). OneOf others (tag_of the_call c)) e h)

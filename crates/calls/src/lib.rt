@@ -246,7 +246,7 @@ pub fn perform<E: Engine>(
 {
     let lent = tallies::records_in(counts);
     let entry = call_lent::<E>(bytes, words, lent, order, call);
-    tallies::enter_counts(counts, entry);
+    entry.enter_counts(counts);
     entry.answer()
 }
 
@@ -312,6 +312,6 @@ pub fn load_counts<E: Engine>(
 {
     let lent = tallies::records_in(counts);
     let entry = load_lent::<E>(bytes, words, lent, order, text);
-    tallies::enter_counts(counts, entry);
+    entry.enter_counts(counts);
     entry.answer()
 }

@@ -6,11 +6,73 @@ ghost use Rattle.bits.specs.Bit.{bit};
 ghost use Rattle.levels.specs.Order.{row_of, at_or_below};
 ghost use Rattle.records.specs.Records.{field, is_task, is_object};
 ghost use Rattle.model.specs.Ready.{Ready};
-ghost use Rattle.decisions.specs.Facts.{writes, both_write};
+ghost use Rattle.decisions.specs.Facts.{Levelled, writes, both_write};
 
 use levels::Order;
 use records::{CONTAINER, DRIVER, FREE, KIND, LEVEL, Lent, MARKS, READ_LEVEL};
 use rows::{NUMBERS, READS, WRITES, Words};
+
+// The row of the level of x: the levels that it is at or below. Several comparisons of one level look it up once.
+pub fn level_row(bytes: &[u8], order: &Order, x: u16) -> u16
+    requires { Levelled order.now bytes.now }
+    ensures { result ≡ row_of order.now (field bytes.now x 1) }
+{
+    let a = records::field(bytes, x, LEVEL);
+    order.row_of(u16::from(a))
+}
+
+// The row of the read level of x.
+// By hand: a function beside `level_row`, since each of the two bytes has a law of its own that its level has a row.
+pub fn read_row(bytes: &[u8], order: &Order, x: u16) -> u16
+    requires { Levelled order.now bytes.now }
+    ensures { result ≡ row_of order.now (field bytes.now x 2) }
+{
+    let a = records::field(bytes, x, READ_LEVEL);
+    order.row_of(u16::from(a))
+}
+
+// The rows of a task's level and of its read level.
+#[derive(Clone, Copy)]
+pub struct Rows {
+    pub level: u16,
+    pub read: u16,
+}
+
+// The rows of the level and of the read level of x.
+pub fn level_rows(bytes: &[u8], order: &Order, x: u16) -> Rows
+    requires { Levelled order.now bytes.now }
+    ensures { (result.level ≡ row_of order.now (field bytes.now x 1)) × (result.read ≡ row_of order.now (field bytes.now x 2)) }
+{
+    Rows {
+        level: level_row(bytes, order, x),
+        read: read_row(bytes, order, x),
+    }
+}
+
+// The level of y stands in a row. The order is asked for by the contract alone.
+pub fn reaches(bytes: &[u8], order: &Order, row: u16, y: u16) -> bool
+    requires { Levelled order.now bytes.now }
+    ensures { result ≡ bit row (field bytes.now y 1) }
+{
+    let b = records::field(bytes, y, LEVEL);
+    levels::in_row(row, u16::from(b))
+}
+
+// The level of x is at or below the level of y.
+pub fn below(bytes: &[u8], order: &Order, x: u16, y: u16) -> bool
+    requires { Levelled order.now bytes.now }
+    ensures { result ≡ at_or_below order.now (field bytes.now x 1) (field bytes.now y 1) }
+{
+    let row = level_row(bytes, order, x);
+    reaches(bytes, order, row, y)
+}
+
+// Two tasks and an object, as most calls name them.
+pub fn are_named(bytes: &[u8], e: u16, d: u16, x: u16) -> bool
+    ensures { result ≡ (is_task bytes.now e && is_task bytes.now d && is_object bytes.now x) }
+{
+    records::is_task(bytes, e) && records::is_task(bytes, d) && records::is_object(bytes, x)
+}
 
 // A state that has passed rows 2 and 3, as an event looks at it: the lengths are right, the order passes, and the bytes are sound
 // under it.
@@ -71,11 +133,11 @@ impl View<'_> {
         self.is_task(a) && self.is_task(b)
     }
 
-    // Two tasks and an object, as most calls name them.
     pub fn are_named(&self, e: u16, d: u16, x: u16) -> bool
         ensures { result ≡ (is_task self.now.bytes.now e && is_task self.now.bytes.now d && is_object self.now.bytes.now x) }
     {
-        self.are_tasks(e, d) && self.is_object(x)
+        let bytes = self.bytes;
+        are_named(bytes, e, d, x)
     }
 
     pub fn driver_of(&self, x: u16) -> u16
@@ -85,7 +147,7 @@ impl View<'_> {
     }
 
     // Byte f of x, a driver or a container, is the number y.
-    fn names(&self, x: u16, f: u16, y: u16) -> bool
+    pub fn names(&self, x: u16, f: u16, y: u16) -> bool
         ensures { result ≡ eqb (field self.now.bytes.now x f) y }
     {
         u16::from(self.field(x, f)) == y
@@ -105,37 +167,32 @@ impl View<'_> {
         self.names(x, CONTAINER, k)
     }
 
-    // The row of the level of x: the levels that it is at or below. Several comparisons of one level look it up once.
     pub fn level_row(&self, x: u16) -> u16
         ensures { result ≡ row_of self.now.order.now (field self.now.bytes.now x 1) }
     {
-        let a = self.field(x, LEVEL);
-        self.order.row_of(u16::from(a))
+        let bytes = self.bytes;
+        level_row(bytes, self.order, x)
     }
 
-    // The row of the read level of x.
-    // By hand: a function beside `level_row`, since each of the two bytes has a law of its own that its level has a row.
     pub fn read_row(&self, x: u16) -> u16
         ensures { result ≡ row_of self.now.order.now (field self.now.bytes.now x 2) }
     {
-        let a = self.field(x, READ_LEVEL);
-        self.order.row_of(u16::from(a))
+        let bytes = self.bytes;
+        read_row(bytes, self.order, x)
     }
 
-    // The level of y stands in a row.
     pub fn reaches(&self, row: u16, y: u16) -> bool
         ensures { result ≡ bit row (field self.now.bytes.now y 1) }
     {
-        let b = self.field(y, LEVEL);
-        levels::in_row(row, u16::from(b))
+        let bytes = self.bytes;
+        reaches(bytes, self.order, row, y)
     }
 
-    // The level of x is at or below the level of y.
     pub fn is_below(&self, x: u16, y: u16) -> bool
         ensures { result ≡ at_or_below self.now.order.now (field self.now.bytes.now x 1) (field self.now.bytes.now y 1) }
     {
-        let row = self.level_row(x);
-        self.reaches(row, y)
+        let bytes = self.bytes;
+        below(bytes, self.order, x, y)
     }
 
     // The level l, which is given and may be none of the order, is at or below the level of y.
@@ -154,7 +211,7 @@ impl View<'_> {
     }
 
     // An access of the task e to the object x in a table; a number past the table has none.
-    fn has_access(&self, table: u16, e: u16, x: u16) -> bool
+    pub fn has_access(&self, table: u16, e: u16, x: u16) -> bool
         requires { table ≤ 2 * numbers }
         ensures { result ≡ (ltb e numbers && cell row_size self.now.words.now (table + e) x) }
     {

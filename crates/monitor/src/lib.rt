@@ -45,7 +45,7 @@ pub extern "C" fn tupehiwo_perform(
     ensures { Performs order (memory bytes.old words.old) tallies.old (call_of request) (ended result bytes.new words.new tallies.new) }
 {
     let entry = request_lent(bytes, words, tallies.len(), &order, request);
-    tallies::enter(tallies, entry);
+    entry.enter(tallies);
     entry.answer()
 }
 
@@ -68,7 +68,7 @@ pub extern "C" fn tupehiwo_load(
     ensures { Loads order (memory bytes.old words.old) tallies.old text.now (ended result bytes.new words.new tallies.new) }
 {
     let entry = load_lent(bytes, words, tallies.len(), &order, text);
-    tallies::enter(tallies, entry);
+    entry.enter(tallies);
     entry.answer()
 }
 

@@ -254,6 +254,7 @@ pub trait Engine {
         ensures { numbered result ≡ decided operation «f0» «f1» «f2» «f3» «f4» «f5» };
 }
 
+#[derive(Clone, Copy)]
 pub struct Table;
 
 impl Engine for Table {
@@ -270,6 +271,7 @@ impl Engine for Table {
     }
 }
 
+#[derive(Clone, Copy)]
 pub struct Rules;
 
 impl Engine for Rules {

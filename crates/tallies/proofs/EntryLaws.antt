@@ -1,6 +1,6 @@
 -- What the model says of a whole call or load, by its entry.
 -- Assumes nothing.
-use Rattle.std.specs.Prelude.{◌≡◌, Bool, ◌&&◌, List, ℕ, length}
+use Rattle.std.specs.Prelude.{◌≡◌, refl, Bool, ◌&&◌, List, ℕ, length}
 use Rattle.std.proofs.Math.Path.{ap}
 use Rattle.std.proofs.Common.{◌∙◌, eq-eqb, ne_eqb}
 use Rattle.std.proofs.Math.Logic.{⊎_elim}
@@ -18,18 +18,23 @@ use Rattle.model.specs.Monitor.{refused_unless, perform}
 use Rattle.model.specs.Load.{load}
 use Rattle.model.specs.Tallies.{list_fits, zeroed, raised_at, is_start, counted_on, tallied, with_list, counted, performed, loaded}
 use Rattle.tallies.specs.declared.Entry.{Entry}
-use Rattle.tallies.specs.Entries.{Enters, entered_as}
+use Rattle.tallies.specs.Entries.{Enters, entered, entered_as}
 
--- ---- what an entry leaves of a list of another length, and of one that fits
+-- ---- what is left of a list of another length, and of one that fits
 
-module _ (n : Entry) (ts : List Tally) where
-  pub unfit_kept : (length ts ≡ numbers → ⊥) → ts ≡ entered_as n ts
-  unfolding entered_as list_fits
+module _ (number : ℕ) (anew : Bool) (verdict : ℕ) (ts : List Tally) where
+  pub unfit_kept : (length ts ≡ numbers → ⊥) → ts ≡ entered number anew verdict ts
+  unfolding entered list_fits
   unfit_kept h = rw (ne_eqb _ _ h)
 
-  pub fit_entered : length ts ≡ numbers → raised_at n.number (number_of n.verdict) (cond n.anew (zeroed present) ts) ≡ entered_as n ts
-  unfolding entered_as list_fits
+  pub fit_entered : length ts ≡ numbers → raised_at number verdict (cond anew (zeroed present) ts) ≡ entered number anew verdict ts
+  unfolding entered list_fits
   fit_entered e = rw (eq-eqb _ _ e)
+
+-- an entry is entered by its parts
+pub by_parts : (n : Entry) (ts : List Tally) → entered n.number n.anew (number_of n.verdict) ts ≡ entered_as n ts
+unfolding entered_as
+by_parts n ts = refl
 
 -- ---- an outcome that a list of another length refuses, and its entry in the list. Which record counts, and whether the list begins anew, goes by the verdict
 
@@ -43,7 +48,7 @@ module _ (m : Memory) (ts : List Tally) (out given : Outcome) (n : Entry) (on : 
       λ i. tallied (g i) (raised_at (r i) (w i) (z i))
 
   pub entered_is : given ≡ refused_unless (eqb (length ts) numbers) row_state m out → number_of n.verdict ≡ given.verdict → Enters n (on (number_of n.verdict)) (anew (number_of n.verdict)) → tallied given (entered_as n ts) ≡ with_list m ts (counted (anew out.verdict) (on out.verdict) ts out)
-  unfolding refused_unless list_fits entered_as with_list
+  unfolding refused_unless list_fits entered entered_as with_list
   entered_is e v s =
       ⊎_elim
       (λ h. rw h (in_its_list (e ∙ rw h) v s))

@@ -21,6 +21,10 @@ InList n = n.number < numbers
 abbrev pub Enters : Entry → ℕ → Bool → Type 0
 Enters n i anew = (n.number ≡ i) × (n.anew ≡ anew)
 
--- zeroed if it begins anew, then one record raised; a list of another length stays as it is
+-- a verdict counted on a record of the list, which is zeroed first where it begins anew; a list of another length stays as it is
+unfoldable pub entered : ℕ → Bool → ℕ → List Tally → List Tally
+entered number anew verdict ts = cond (list_fits present ts) (raised_at number verdict (cond anew (zeroed present) ts)) ts
+
+-- as an entry tells them
 unfoldable pub entered_as : Entry → List Tally → List Tally
-entered_as n ts = cond (list_fits present ts) (raised_at n.number (number_of n.verdict) (cond n.anew (zeroed present) ts)) ts
+entered_as n ts = entered n.number n.anew (number_of n.verdict) ts

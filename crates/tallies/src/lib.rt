@@ -3,12 +3,11 @@
 
 ghost use Rattle.std.specs.Prelude.{◌≡◌, List, [], ℕ, ◌<◌, length};
 ghost use Rattle.rows.specs.Size.{present, numbers};
-ghost use Rattle.model.specs.Verdicts.{number_of};
 ghost use Rattle.model.specs.State.{memory};
 ghost use Rattle.model.specs.Tallies as model;
 ghost use Rattle.model.specs.Tallies.{one_more, raised, raised_at, zeroed, if_task};
 ghost use Rattle.model.specs.declared.Tally.{Tally};
-ghost use Rattle.tallies.specs.Entries.{InList, answer_of, entered_as};
+ghost use Rattle.tallies.specs.Entries.{InList, answer_of, entered, entered_as};
 ghost use Rattle.tallies.specs.Counts.{records_in, left_over};
 
 use model::{Answer, Call, Tally, Told, Verdict};
@@ -39,6 +38,25 @@ impl Entry {
             told: self.told.word(),
         }
     }
+
+    // Enters it in a list of records.
+    // By hand: InList is asked for, since as an invariant of Entry it would be a part of what `with_word` of calls/specs makes.
+    #[tactic(auto, using(crate::proofs::EntryLaws::by_parts))]
+    pub fn enter(&self, tallies: &mut [Tally])
+        requires { InList self.now }
+        ensures { tallies.new ≡ entered_as self.now tallies.old }
+    {
+        enter(tallies, self.number, self.anew, self.verdict.number());
+    }
+
+    // Enters it in a list of plain numbers.
+    #[tactic(auto, using(crate::proofs::EntryLaws::by_parts))]
+    pub fn enter_counts(&self, counts: &mut [u32])
+        requires { InList self.now }
+        ensures { (records_in counts.new ≡ entered_as self.now (records_in counts.old)) × (left_over counts.new ≡ left_over counts.old) }
+    {
+        enter_counts(counts, self.number, self.anew, self.verdict.number());
+    }
 }
 
 // One more, stopping at the most that 32 bits hold.
@@ -49,24 +67,26 @@ fn one_more(n: u32) -> u32
     n.saturating_add(1)
 }
 
-// The record with a verdict counted.
+// The record with a verdict counted, by its number: every number that is not that of a granted or a slipped call counts as refused.
 #[tactic(auto, using(std::proofs::lemmas::Bool::Decides::nat_tests), unfolding(model::specs::Tallies::raised))]
-fn raise(tally: Tally, verdict: Verdict) -> Tally
-    ensures { result ≡ raised tally (number_of verdict) }
+fn raise(tally: Tally, verdict: u8) -> Tally
+    ensures { result ≡ raised tally verdict }
 {
-    match verdict {
-        Verdict::Granted => Tally {
+    if verdict == Verdict::Granted.number() {
+        return Tally {
             granted: one_more(tally.granted),
             ..tally
-        },
-        Verdict::Slipped => Tally {
+        };
+    }
+    if verdict == Verdict::Slipped.number() {
+        return Tally {
             slipped: one_more(tally.slipped),
             ..tally
-        },
-        _ => Tally {
-            refused: one_more(tally.refused),
-            ..tally
-        },
+        };
+    }
+    Tally {
+        refused: one_more(tally.refused),
+        ..tally
     }
 }
 
@@ -118,9 +138,9 @@ trait Element: Copy {
         ensures { (held list.new ≡ zeroed present) × (rest list.new ≡ rest list.old) };
 
     // Raises the record of a number by a verdict.
-    fn raise_at(list: &mut [Self], number: usize, verdict: Verdict)
+    fn raise_at(list: &mut [Self], number: usize, verdict: u8)
         requires { number < length (held list.old) }
-        ensures { (held list.new ≡ raised_at number (number_of verdict) (held list.old)) × (rest list.new ≡ rest list.old) };
+        ensures { (held list.new ≡ raised_at number verdict (held list.old)) × (rest list.new ≡ rest list.old) };
 }
 
 #[tactic(auto, unfolding(model::specs::Tallies::raised_at, model::specs::Tallies::zeroed))]
@@ -137,7 +157,7 @@ impl Element for Tally {
         list.fill(Tally::default());
     }
 
-    fn raise_at(list: &mut [Tally], number: usize, verdict: Verdict) {
+    fn raise_at(list: &mut [Tally], number: usize, verdict: u8) {
         list[number] = raise(list[number], verdict);
     }
 }
@@ -156,7 +176,7 @@ impl Element for u32 {
         list[..COUNTS * records::RECORDS].fill(0);
     }
 
-    fn raise_at(list: &mut [u32], number: usize, verdict: Verdict) {
+    fn raise_at(list: &mut [u32], number: usize, verdict: u8) {
         let i = COUNTS * number;
         let before = Tally {
             granted: list[i],
@@ -171,27 +191,26 @@ impl Element for u32 {
 }
 
 // Enters a call in its list: what begins anew zeroes it first, then one record is raised. A list of another length stays as it is.
-// By hand: each function here asks for InList, since as an invariant of Entry it would be a part of what `with_word` of calls/specs makes.
 #[tactic(auto, using(crate::proofs::EntryLaws::unfit_kept, crate::proofs::EntryLaws::fit_entered), unfolding(model::specs::Tallies::zeroed))]
-fn enter_in<E: Element>(list: &mut [E], entry: Entry)
-    requires { InList entry }
-    ensures { (E.held list.new ≡ entered_as entry (E.held list.old)) × (E.rest list.new ≡ E.rest list.old) }
+fn enter_in<E: Element>(list: &mut [E], number: u16, anew: bool, verdict: u8)
+    requires { number < numbers }
+    ensures { (E.held list.new ≡ entered number anew verdict (E.held list.old)) × (E.rest list.new ≡ E.rest list.old) }
 {
     if E::records_in(list) != records::RECORDS {
         return;
     }
-    if entry.anew {
+    if anew {
         E::zero(list);
     }
-    E::raise_at(list, entry.number as usize, entry.verdict);
+    E::raise_at(list, number as usize, verdict);
 }
 
 // Enters a call in a list of records.
-pub fn enter(tallies: &mut [Tally], entry: Entry)
-    requires { InList entry }
-    ensures { tallies.new ≡ entered_as entry tallies.old }
+pub fn enter(tallies: &mut [Tally], number: u16, anew: bool, verdict: u8)
+    requires { number < numbers }
+    ensures { tallies.new ≡ entered number anew verdict tallies.old }
 {
-    enter_in(tallies, entry);
+    enter_in(tallies, number, anew, verdict);
 }
 
 // How many records a list of plain numbers holds, three numbers to a record; one or two left over belong to none.
@@ -202,9 +221,9 @@ pub fn records_in(counts: &[u32]) -> usize
 }
 
 // Enters a call in a list of plain numbers, as programs in Rattle lend it.
-pub fn enter_counts(counts: &mut [u32], entry: Entry)
-    requires { InList entry }
-    ensures { (records_in counts.new ≡ entered_as entry (records_in counts.old)) × (left_over counts.new ≡ left_over counts.old) }
+pub fn enter_counts(counts: &mut [u32], number: u16, anew: bool, verdict: u8)
+    requires { number < numbers }
+    ensures { (records_in counts.new ≡ entered number anew verdict (records_in counts.old)) × (left_over counts.new ≡ left_over counts.old) }
 {
-    enter_in(counts, entry);
+    enter_in(counts, number, anew, verdict);
 }

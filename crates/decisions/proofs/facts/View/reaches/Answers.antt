@@ -1,5 +1,0 @@
-use Rattle.decisions.specs.FactLaws.{levelled, level_has_row}
-use Rattle.decisions.proofs.facts.View.reaches.Goals as goal
-
-pub in_row-requires : goal.in_row-requires
-in_row-requires c = simp (c.from.ensures, c.field-b.ensures) (level_has_row _ _ (levelled _ _ _ c.args.self.now.ready) c.args.y)
