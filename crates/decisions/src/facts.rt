@@ -8,7 +8,7 @@ ghost use Rattle.records.specs.Records.{field, is_task, is_object};
 ghost use Rattle.model.specs.Ready.{Ready};
 ghost use Rattle.decisions.specs.Facts.{Levelled, writes, both_write};
 
-use levels::Order;
+use levels::{Order, Rows};
 use records::{CONTAINER, DRIVER, FREE, KIND, LEVEL, Lent, MARKS, READ_LEVEL};
 use rows::{NUMBERS, READS, WRITES, Words};
 
@@ -31,22 +31,14 @@ pub fn read_row(bytes: &[u8], order: &Order, x: u16) -> u16
     order.row_of(u16::from(a))
 }
 
-// The rows of a task's level and of its read level.
-#[derive(Clone, Copy)]
-pub struct Rows {
-    pub level: u16,
-    pub read: u16,
-}
-
 // The rows of the level and of the read level of x.
 pub fn level_rows(bytes: &[u8], order: &Order, x: u16) -> Rows
     requires { Levelled order.now bytes.now }
     ensures { (result.level ≡ row_of order.now (field bytes.now x 1)) × (result.read ≡ row_of order.now (field bytes.now x 2)) }
 {
-    Rows {
-        level: level_row(bytes, order, x),
-        read: read_row(bytes, order, x),
-    }
+    let a = records::field(bytes, x, LEVEL);
+    let b = records::field(bytes, x, READ_LEVEL);
+    order.rows_of(u16::from(a), u16::from(b))
 }
 
 // The level of y stands in a row. The order is asked for by the contract alone.

@@ -15,6 +15,13 @@ pub struct Order {
     pub top: u16,
 }
 
+// The rows of a task's level and of its read level.
+#[derive(Clone, Copy)]
+pub struct Rows {
+    pub level: u16,
+    pub read: u16,
+}
+
 const MOST_LEVELS: u16 = 16;
 
 impl Order {
@@ -36,6 +43,17 @@ impl Order {
         ensures { result ≡ row_of self.now a }
     {
         self.rows[a as usize]
+    }
+
+    // The rows of two levels.
+    pub fn rows_of(&self, level: u16, read: u16) -> Rows
+        requires { (level < most_levels) × (read < most_levels) }
+        ensures { (result.level ≡ row_of self.now level) × (result.read ≡ row_of self.now read) }
+    {
+        Rows {
+            level: self.row_of(level),
+            read: self.row_of(read),
+        }
     }
 
     // Each level of the rest has its row within `set`, where those in a row found within are passed over, the highest first: on a
