@@ -7,3 +7,5 @@ pub mod LineLaws
 pub mod ScriptLaws
 pub mod Print
 pub mod PrintLaws
+pub mod Stored
+pub mod StoredLaws

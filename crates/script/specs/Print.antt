@@ -2,7 +2,7 @@
 -- Assumes nothing.
 use Rattle.std.specs.Prelude.{◌≡◌, cond, List, [], ◌∷◌, ◌++◌, ℕ, ◌+◌, ◌/◌, ◌%◌, ltb, take}
 use Rattle.script.specs.Script.{space}
-use Rattle.script.specs.declared.print.Text.{Text}
+use Rattle.script.specs.declared.text.Text.{Text}
 use Rattle.script.specs.declared.print.Reply.{Reply}
 use Rattle.script.specs.declared.print.Reply.TheVariants.{Bad, Verdict, Rounds}
 

@@ -4,7 +4,7 @@ use Rattle.std.specs.Prelude.{◌≡◌, refl, List, [], ◌∷◌, ◌++◌, �
 use Rattle.std.proofs.Common.{ap, ◌∙◌, inl, inr, arith, append_assoc, append-nil, take_all, length-take, length-append, lt-ltb, le-ltb}
 use Rattle.bits.specs.AllLaws.{either}
 use Rattle.script.specs.Print.{digit, decimal, reply_line, held, Printed}
-use Rattle.script.specs.declared.print.Text.{Text}
+use Rattle.script.specs.declared.text.Text.{Text}
 use Rattle.script.specs.declared.print.Reply.{Reply}
 use Rattle.script.specs.declared.print.Reply.TheVariants.{Bad, Verdict, Rounds}
 

@@ -4,6 +4,7 @@
 mod calls;
 mod pieces;
 pub mod print;
+pub mod text;
 
 ghost use Rattle.std.specs.Prelude.{◌≡◌, drop};
 ghost use Rattle.script.specs.Script.{start_of, read_line};

@@ -5,7 +5,7 @@ use Rattle.std.proofs.Common.{ap, ◌∙◌, arith, add-one, take-suc}
 use Rattle.model.specs.declared.Report.{Report}
 use Rattle.model.specs.Monitor.{report}
 use Rattle.script.specs.Print.{reply_line, held, Printed}
-use Rattle.script.specs.declared.print.Text.{Text}
+use Rattle.script.specs.declared.text.Text.{Text}
 use Rattle.script.specs.PrintLaws.{reply_short, printed_whole}
 use Rattle.trail.specs.Lines.{LineOutcome, line_done}
 use Rattle.trail.specs.Marked.{marked_line}

@@ -9,7 +9,7 @@ use Rattle.model.specs.declared.Report.{Report}
 use Rattle.model.specs.Monitor.{next_marked, next_marked_of}
 use Rattle.marking.specs.FirstLaws.{First, first_of}
 use Rattle.script.specs.Print.{decimal, line_feed, Printed}
-use Rattle.script.specs.declared.print.Text.{Text}
+use Rattle.script.specs.declared.text.Text.{Text}
 use Rattle.script.specs.PrintLaws.{nothing_printed, then, small}
 use Rattle.trail.specs.Buffers.{marked_size}
 use Rattle.trail.specs.Marked.{marked_text, listed, is_marked, marked_line}

@@ -5,7 +5,7 @@ ghost use Rattle.trail.specs.Feeding.{nothing_fed, ended, after_byte, after_piec
 
 use crate::lines::Monitor;
 use crate::marked;
-use script::print::Text;
+use script::text::Text;
 
 // How many bytes of a line are kept: as many as settle what it means.
 pub const KEPT: usize = 128;

@@ -3,7 +3,7 @@ ghost use Rattle.script.specs.Print.{Printed};
 ghost use Rattle.trail.specs.Marked.{marked_line};
 
 use model::Report;
-use script::print::Text;
+use script::text::Text;
 
 // Each marked number, rising, a space before it.
 pub fn print<const N: usize>(out: &mut Text<N>, report: Report)
