@@ -36,9 +36,9 @@ pub fn level_rows(bytes: &[u8], order: &Order, x: u16) -> Rows
     requires { Levelled order.now bytes.now }
     ensures { (result.level ≡ row_of order.now (field bytes.now x 1)) × (result.read ≡ row_of order.now (field bytes.now x 2)) }
 {
-    let a = records::field(bytes, x, LEVEL);
-    let b = records::field(bytes, x, READ_LEVEL);
-    order.rows_of(u16::from(a), u16::from(b))
+    let level = records::field(bytes, x, LEVEL);
+    let read = records::field(bytes, x, READ_LEVEL);
+    order.rows_of(u16::from(level), u16::from(read))
 }
 
 // The level of y stands in a row. The order is asked for by the contract alone.
