@@ -5,7 +5,7 @@ ghost use Rattle.std.specs.Prelude.{◌≡◌, true, eqb};
 ghost use Rattle.rows.specs.Size.{numbers};
 ghost use Rattle.levels.specs.Order.{order_passes};
 ghost use Rattle.model.specs.Verdicts.{granted, row_state, number_of};
-ghost use Rattle.model.specs.State.{memory};
+ghost use Rattle.model.specs.State.{memory, lengths_fit};
 ghost use Rattle.model.specs.Ready.{Ready};
 ghost use Rattle.model.specs.Events.{left};
 ghost use Rattle.model.specs.Monitor as model;
@@ -77,6 +77,14 @@ impl From<Request> for Call {
             _ => Call::Mark(65535),
         }
     }
+}
+
+// Both lengths are right.
+// By hand: one test of both before the arrays are made, so that a start needs no look at what else a request has.
+fn lengths_fit(bytes: &[u8], words: &[u64]) -> bool
+    ensures { result ≡ lengths_fit (memory bytes.now words.now) }
+{
+    (bytes.len() == records::BYTES) & (words.len() == rows::WORDS)
 }
 
 // The core alone, at the top; all else zero.
@@ -200,6 +208,9 @@ fn judge<E: Engine>(
     if lent != records::RECORDS {
         return on_zero(Verdict::State);
     }
+    if !lengths_fit(bytes, words) {
+        return on_zero(Verdict::State);
+    }
     let Some(bytes) = bytes.as_mut_array() else {
         return on_zero(Verdict::State);
     };
@@ -288,6 +299,9 @@ pub fn load_lent<E: Engine>(
     ensures { LoadEntry (refused_unless (eqb lent numbers) row_state (memory bytes.old words.old) (loads.load order.now (memory bytes.old words.old) text.now)) result bytes.new words.new }
 {
     if lent != records::RECORDS {
+        return on_zero(Verdict::State);
+    }
+    if !lengths_fit(bytes, words) {
         return on_zero(Verdict::State);
     }
     let Some(bytes) = bytes.as_mut_array() else {

@@ -1,4 +1,4 @@
-use Rattle.std.proofs.Common.{◌∙◌}
+use Rattle.std.proofs.Common.{sym, ◌∙◌}
 use Rattle.model.specs.State.{memory}
 use Rattle.calls.proofs.Rows.{bytes_wrong, words_wrong}
 use Rattle.calls.proofs.Entering.{another_entry, unlent_entry, fitting}
@@ -7,6 +7,12 @@ use Rattle.calls.proofs.judge.Goals as goal
 pub returns-then-lent-ne-RECORDS : goal.returns-then-lent-ne-RECORDS
 returns-then-lent-ne-RECORDS g c =
     another_entry (memory c.args.bytes.now c.args.words.now) c.args.lent _ c.args.call c.if-lent-ne-RECORDS.true _ c.on_zero.ensures
+
+pub returns-then-not-lengths_fit : goal.returns-then-not-lengths_fit
+returns-then-not-lengths_fit g c =
+    let m = memory c.args.bytes.now c.args.words.now in
+    let d = unlent_entry c.args.order.now m c.args.call (sym c.lengths_fit.ensures ∙ c.if-not-lengths_fit.true) _ c.on_zero-then-not-lengths_fit.ensures in
+    (d.0 ∙ fitting m c.args.lent _ c.if-lent-ne-RECORDS.false, d.1, d.2)
 
 pub returns-in_default : goal.returns-in_default
 returns-in_default g c =
