@@ -90,6 +90,9 @@ pub fn next_marked(report: Report, from: u16) -> u16
     ensures { result ≡ next_marked report from }
 {
     let [low, high] = report.words;
+    if from >= NUMBERS {
+        return NUMBERS;
+    }
     if from >= 64 {
         return match lowest_from(high, from - 64) {
             Some(i) => 64 + i,

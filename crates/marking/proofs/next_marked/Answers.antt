@@ -3,6 +3,9 @@ use Rattle.std.proofs.Common.{arith}
 use Rattle.marking.specs.LowestLaws.{next_low, next_high, next_none}
 use Rattle.marking.proofs.next_marked.Goals as goal
 
+pub returns-then-from-ge-NUMBERS : goal.returns-then-from-ge-NUMBERS
+returns-then-from-ge-NUMBERS c = next_none _ _ (λ j a b. absurd (omega (arith, c.if-from-ge-NUMBERS.true))) refl (λ j a b. absurd (omega (arith, c.if-from-ge-NUMBERS.true)))
+
 pub returns-in-Some : goal.returns-in-Some
 returns-in-Some c = next_high _ _ (λ j a b. absurd (omega (arith, c.if-from-ge64.true))) refl _ c.in-Some.ensures
 
