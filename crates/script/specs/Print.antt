@@ -1,6 +1,6 @@
 -- What is printed: a number in decimal, and the line that answers a line.
 -- Assumes nothing.
-use Rattle.std.specs.Prelude.{◌≡◌, cond, List, [], ◌∷◌, ◌++◌, ℕ, ◌+◌, ◌/◌, ◌%◌, ltb, take}
+use Rattle.std.specs.Prelude.{◌≡◌, cond, List, [], ◌∷◌, ◌++◌, ℕ, ◌+◌, ◌/◌, ◌%◌, eqb, ltb, take}
 use Rattle.script.specs.Script.{space}
 use Rattle.script.specs.declared.text.Text.{Text}
 use Rattle.script.specs.declared.print.Reply.{Reply}
@@ -15,6 +15,11 @@ decimal n =
     cond (ltb n 10) (digit n ∷ [])
     (cond (ltb n 100) (digit (n / 10) ∷ digit (n % 10) ∷ [])
     (digit (n / 100) ∷ digit (n / 10 % 10) ∷ digit (n % 10) ∷ []))
+
+-- what stands before the first such byte, or all where there is none
+unfoldable pub until : ℕ → List ℕ → List ℕ
+until stop [] = []
+until stop (b ∷ bs) = cond (eqb b stop) [] (b ∷ until stop bs)
 
 -- what ends a line
 abbrev pub line_feed : ℕ

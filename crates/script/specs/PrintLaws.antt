@@ -1,9 +1,15 @@
 -- Laws of what is printed.
 -- Assumes nothing.
-use Rattle.std.specs.Prelude.{◌≡◌, refl, List, [], ◌∷◌, ◌++◌, ℕ, zero, suc, ◌+◌, ◌/◌, ◌%◌, ◌≤◌, ◌<◌, ltb, length, take}
-use Rattle.std.proofs.Common.{ap, ◌∙◌, inl, inr, arith, append_assoc, append-nil, take_all, length-take, length-append, lt-ltb, le-ltb}
+use Rattle.std.specs.Prelude.{◌≡◌, refl, Option, List, [], ◌∷◌, ◌++◌, ℕ, zero, suc, ◌+◌, ◌-◌, ◌/◌, ◌%◌, ◌≤◌, ◌<◌, min, eqb, ltb, length, take}
+use Rattle.std.proofs.Common.{sym, ap, ◌∙◌, inl, inr, arith, append_assoc, append-nil, take_all, length-take, length-append, lt-ltb, le-ltb, ltb-false}
+use Rattle.std.specs.List.{position, position_or_len}
+use Rattle.std.specs.Option.{unwrap_or}
+use Rattle.std.proofs.lemmas.List.{take_min}
+use Rattle.std.proofs.lemmas.Slice.{take-put_mid}
+use Rattle.std.proofs.Math.Seq.{take-append-add}
+use borrow.Rule.Slice.PartMut.{put_mid}
 use Rattle.bits.specs.AllLaws.{either}
-use Rattle.script.specs.Print.{digit, decimal, reply_line, held, Printed}
+use Rattle.script.specs.Print.{digit, decimal, until, reply_line, held, Printed}
 use Rattle.script.specs.declared.text.Text.{Text}
 use Rattle.script.specs.declared.print.Reply.{Reply}
 use Rattle.script.specs.declared.print.Reply.TheVariants.{Bad, Verdict, Rounds}
@@ -24,6 +30,42 @@ then {n} {a} {s = s} {t = t} p q =
 -- where there is room, the whole text is there
 pub printed_whole : {n : ℕ} {a b : Text n} {t : List ℕ} → Printed a t b → length (held a) + length t ≤ n → held b ≡ held a ++ t
 printed_whole {n} {a} {t = t} p h = p.stored ∙ take_all n (held a ++ t) (omega (arith, length-append (held a) t))
+
+-- text that is copied in at once, as much of it as there is room for
+pub copied : (l t : List ℕ) {n at k : ℕ} {s : List ℕ} → length l ≡ n → at ≤ n → k ≡ min (length t) (n - at) → s ≡ take k t → take (at + k) (put_mid at (at + k - at) l s) ≡ take n (take at l ++ t)
+copied l t {n} {at} {k} {s} z b e p =
+    let h = take at l in
+    let room : n ≡ length h + (n - at) = omega (arith, length-take at l, z) in
+    let less : k ≡ min (n - at) (length t) = omega (arith, e) in
+    take-put_mid at (at + k - at) l s (at + k) (omega (arith, ap length p, length-take k t)) (omega (arith, z))
+    ∙ ap (λ (x : List ℕ). h ++ x) (p ∙ ap (λ (x : ℕ). take x t) less ∙ take_min (n - at) t)
+    ∙ sym (ap (λ (x : ℕ). take x (h ++ t)) room ∙ take-append-add h t (n - at))
+
+-- ---- the bytes before the first of a kind
+
+until_position : (stop : ℕ) (l : List ℕ) → position_or_len (λ b. eqb b stop) l ≡ length (until stop l)
+unfolding until
+until_position stop [] = refl
+until_position stop (b ∷ bs) = elim (either (eqb b stop)) [ inl h ↦ rw h | inr h ↦ rw h (omega (arith, until_position stop bs)) ]
+
+pub until_within : (stop : ℕ) (l : List ℕ) → length (until stop l) ≤ length l
+unfolding until
+until_within stop [] = omega arith
+until_within stop (b ∷ bs) = elim (either (eqb b stop)) [ inl h ↦ rw h (omega arith) | inr h ↦ rw h (omega (arith, until_within stop bs)) ]
+
+pub until_taken : (stop : ℕ) (l : List ℕ) → take (length (until stop l)) l ≡ until stop l
+unfolding until
+until_taken stop [] = refl
+until_taken stop (b ∷ bs) = elim (either (eqb b stop)) [ inl h ↦ rw h | inr h ↦ rw h (ap (λ (t : List ℕ). b ∷ t) (until_taken stop bs)) ]
+
+-- where the first stands, or else the end
+pub until_end : (stop : ℕ) (l : List ℕ) {r : Option ℕ} → r ≡ position (λ b. eqb b stop) l → unwrap_or r (length l) ≡ length (until stop l)
+until_end stop l e =
+    let n = length (until stop l) in
+    rw (e, until_position stop l) (elim (either (ltb n (length l))) [
+      | inl h ↦ rw h
+      | inr h ↦ rw h (omega (arith, ltb-false n (length l) h, until_within stop l))
+    ])
 
 -- ---- decimal
 

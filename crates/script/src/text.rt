@@ -14,7 +14,7 @@ pub struct Text<const N: usize> {
 }
 
 impl<const N: usize> Text<N> {
-    ghost use Rattle.script.specs.Print.{held, Printed, decimal, reply_line};
+    ghost use Rattle.script.specs.Print.{held, Printed, decimal, until, reply_line};
 
     pub fn new() -> Text<N>
         ensures { held result ≡ [] }
@@ -59,6 +59,22 @@ impl<const N: usize> Text<N> {
         ensures { Printed self.old bytes.now self.new }
     {
         self.len = print::text(&mut self.bytes, self.len, bytes);
+    }
+
+    // The bytes before the first `stop`, or all where there is none: how many they are.
+    // At once: one by one, each would wait for the length that the one before it leaves in memory.
+    pub fn until(&mut self, bytes: &[u8], stop: u8) -> usize
+        ensures within { result ≤ length bytes.now }
+        ensures counts { result ≡ length (until stop bytes.now) }
+        ensures prints { Printed self.old (until stop bytes.now) self.new }
+    {
+        let taken = bytes.iter().position(|b| *b == stop).unwrap_or(bytes.len());
+        let kept = taken.min(N - self.len);
+        let end = self.len + kept;
+        let buffer = &mut self.bytes[..];
+        buffer[self.len..end].copy_from_slice(&bytes[..kept]);
+        self.len = end;
+        taken
     }
 
     pub fn answer(&mut self, reply: Reply)

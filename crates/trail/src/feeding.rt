@@ -1,7 +1,7 @@
 // A script whose input comes in pieces. Each is fed as it comes, and what it prints stands in a buffer until it is written.
 ghost use Rattle.std.specs.Prelude.{◌+◌, ◌*◌, ◌≤◌, ◌≡◌, length};
 ghost use Rattle.trail.specs.Buffers.{answer_size, marked_size, progress_in, reading_in, Room};
-ghost use Rattle.trail.specs.Feeding.{nothing_fed, ended, after_byte, after_piece, closed, finished, emptied};
+ghost use Rattle.trail.specs.Feeding.{nothing_fed, ended, after_piece, closed, finished, emptied};
 
 use crate::lines::Monitor;
 use crate::marked;
@@ -45,25 +45,19 @@ impl State {
         self.out.answer(reply);
     }
 
-    fn feed_byte(&mut self, b: u8)
-        requires { Room self.old answer_size }
-        ensures feeds { reading_in self.new ≡ after_byte b (reading_in self.old) }
-        ensures room { length (progress_in self.new).printed ≤ length (progress_in self.old).printed + answer_size }
-    {
-        if b == b'\n' {
-            self.end_line();
-        } else {
-            self.line.byte(b);
-        }
-    }
-
-    // Feeds a piece. Its answers fit: each answers a line, which has at least its line feed, with at most eight bytes.
+    // Feeds a piece, a line at a time. Its answers fit: each answers a line, which has at least its line feed, with at most eight bytes.
     pub fn feed(&mut self, piece: &[u8])
         requires { Room self.old (answer_size * length piece.now) }
         ensures { reading_in self.new ≡ after_piece piece.now (reading_in self.old) }
     {
-        for b in piece {
-            self.feed_byte(*b);
+        let mut at = 0;
+        // By hand: the loop steps from a line's end to the next one's, which is known only when that is read.
+        while at < piece.len() {
+            at += self.line.until(&piece[at..], b'\n');
+            if at < piece.len() {
+                self.end_line();
+                at += 1;
+            }
         }
     }
 
