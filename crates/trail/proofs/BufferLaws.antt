@@ -1,7 +1,7 @@
--- Laws of the program's buffers: what a line and a piece leave there.
+-- Laws of the program's buffers: what a line, a byte and a piece leave there.
 -- Assumes nothing.
-use Rattle.std.specs.Prelude.{◌≡◌, refl, List, [], ◌∷◌, ◌++◌, ℕ, suc, ◌+◌, ◌≤◌, ◌<◌, eqb, length, take, drop}
-use Rattle.std.proofs.Common.{sym, ap, ◌∙◌, inl, inr, arith, append_assoc, append-nil, take_all, drop-drop, length-take, length-drop}
+use Rattle.std.specs.Prelude.{◌≡◌, refl, List, [], ◌∷◌, ◌++◌, ℕ, suc, ◌+◌, ◌≤◌, ◌<◌, eqb, length, take, drop, get_or}
+use Rattle.std.proofs.Common.{sym, ap, ◌∙◌, inl, inr, arith, add-one, append_assoc, append-nil, take-suc, take_all, drop-drop, length-take, length-drop}
 use Rattle.bits.specs.AllLaws.{either}
 use Rattle.model.specs.declared.Report.{Report}
 use Rattle.model.specs.Monitor.{report}
@@ -43,6 +43,11 @@ pub all_told : (r : Reading) {p : Progress} {n : ℕ} {out out' : Text n} {m : R
     → ◌≡◌ {A = Progress} (record { printed = held out'; order = p.order; memory = p.memory; tallies = p.tallies }) (finished r)
 unfolding finished with_marked
 all_told r {m = m} h q k d room = let s = marked_short m in rw (← h, ← q, ← k, printed_whole d (omega arith))
+
+-- ---- a byte
+
+pub piece_more : (piece : List ℕ) (i : ℕ) (r : Reading) → i < length piece → after_piece (take (i + 1) piece) r ≡ after_byte (get_or piece i 0) (after_piece (take i piece) r)
+piece_more piece i r h = rw (add-one, take-suc piece i 0 h) (pieces_joined (take i piece) (get_or piece i 0 ∷ []) r ∙ (unfold after_piece in refl))
 
 -- ---- a line that a piece goes on with
 
